@@ -1,0 +1,78 @@
+-- The quick lookup and the plain scan of a key in an object: document 01, section "Questions". Quick lookup halves the C
+-- strings for the text. Not found is absent, with zero second comparisons. Found, it halves the n KeyEntries for that
+-- slot's offset, as numbers. The plain scan compares texts from member 0 and answers the first match's Entry.
+use Prim.Native.Nat.{ℕ, zero, suc, _+_, _*_}
+use mathlib.Core.List.{List}
+use Rattle.json.specs.Choose.{choose}
+use Rattle.json.specs.Reading.{Outcome, halt, done, Reading, Asked, answer, refuse, ask, answers, refuses, _>>=_, _>>_}
+use Rattle.json.specs.Bytes.{part}
+use Rattle.json.specs.Span.{Span}
+use Rattle.json.specs.Texts.{compareNumbers, compareTexts, isEqual}
+use Rattle.binary_json_rules.specs.Areas.{word, count, slot}
+use Rattle.binary_json_rules.specs.Questions.{object, keyEntryOf, entryOf, slotRead, textNamed}
+use Rattle.binary_json_rules.specs.Halving.{Item, compares, unreadable, Halved, found, missed, broken, halve}
+
+-- the Entry of the member with the key, or absent
+pub data Found : Type 0 where
+  entry : ℕ → Found
+  absent : Found
+
+-- ---- the quick lookup
+
+-- string k against the key x; a slot that is not good to read is 20 when it is compared
+abbrev pub stringItem : List ℕ → List ℕ → Asked Span → Item
+stringItem doc x (halt number place u) = unreadable
+stringItem doc x (done s u) = compares (compareTexts (part doc (s .place) (s .len)) x)
+
+abbrev pub strings : List ℕ → List ℕ → Halved
+strings doc x = halve (λ k. stringItem doc x (ask (slotRead doc k 0))) (count doc)
+
+-- the n KeyEntries of the object at c against the offset v, as numbers
+abbrev pub keys : List ℕ → ℕ → ℕ → ℕ → Halved
+keys doc c n v = halve (λ j. compares (compareNumbers (word doc (keyEntryOf c j)) v)) n
+
+pub record Counted : Type 0 where
+  pub answer : Found
+  pub first : ℕ
+  pub second : ℕ
+
+abbrev pub counted : Found → ℕ → ℕ → Counted
+counted a m n = record { answer = a; first = m; second = n }
+
+unfoldable pub afterKeys : {S : Type 0} → ℕ → ℕ → ℕ → Halved → Reading S Counted
+afterKeys c n first (found j second) = answer (counted (entry (entryOf c n j)) first second)
+afterKeys c n first (missed j second) = answer (counted absent first second)
+afterKeys c n first broken = refuse 20 c
+
+unfoldable pub afterStrings : {S : Type 0} → List ℕ → ℕ → ℕ → Halved → Reading S Counted
+afterStrings doc c n (found k first) = afterKeys c n first (keys doc c n (slot doc k))
+afterStrings doc c n (missed k first) = answer (counted absent first 0)
+afterStrings doc c n broken = refuse 20 c
+
+unfoldable pub quickLookup : {S : Type 0} → List ℕ → ℕ → List ℕ → Reading S Counted
+quickLookup doc c x = do
+    n ← object doc c
+    afterStrings doc c n (strings doc x)
+
+-- both counts; a refusal has 0 and 0
+abbrev pub firstCount : Asked Counted → ℕ
+firstCount (halt number place u) = 0
+firstCount (done a u) = a .first
+
+abbrev pub secondCount : Asked Counted → ℕ
+secondCount (halt number place u) = 0
+secondCount (done a u) = a .second
+
+-- ---- the plain scan
+
+-- from member j on, with so many left of the n members
+unfoldable pub scanFrom : {S : Type 0} → List ℕ → ℕ → ℕ → List ℕ → ℕ → ℕ → Reading S Found
+scanFrom doc c n x zero j = answer absent
+scanFrom doc c n x (suc left) j = do
+    s ← textNamed doc (word doc (keyEntryOf c j)) c
+    choose (isEqual (compareTexts (part doc (s .place) (s .len)) x)) (answer (entry (entryOf c n j))) (scanFrom doc c n x left (j + 1))
+
+unfoldable pub plainScan : {S : Type 0} → List ℕ → ℕ → List ℕ → Reading S Found
+plainScan doc c x = do
+    n ← object doc c
+    scanFrom doc c n x n 0

@@ -1,0 +1,7 @@
+pub mod ByteTables
+pub mod Meaning
+pub mod Verdict
+pub mod KeyTable
+pub mod TreeOf
+pub mod Leads
+pub mod Questions

@@ -1,0 +1,109 @@
+-- Where each value of a Fractured JSON document ends, by its bytes alone, and the tree of a document, computed. Both are
+-- meant for accepted documents; of any other they say nothing.
+use Prim.Native.Nat.{ℕ, zero, suc, _+_, _-_, _*_}
+use mathlib.Core.Bool.{Bool, true, false}
+use mathlib.Core.List.{List, []}
+use lib.Dec.{ltb}
+use lib.ListN.{length, getD}
+use Rattle.json.specs.Bytes.{number, part}
+use Rattle.json.specs.Choose.{choose}
+use Rattle.json.specs.Limits.{deepest}
+use Rattle.json.specs.Number.{Float, floatTree}
+use Rattle.json.specs.Reading.{Outcome, halt, done}
+use Rattle.json.specs.Tree.{Tree, null, bool, num, str, arr, obj, Trees, none, more, Members, end, member}
+use Rattle.fractured_json_rules.specs.ByteTables.{Width, bytes, Len, tiny, behind, Form, fNull, fBool, fInt, fFloat, fTiny, fString, fObject, fArray, fReserved, formOf, Index, inByte, spelled, KeyForm, immediate, backReference, globalIndex, kReserved, keyFormOf}
+use Rattle.fractured_json_rules.specs.Meaning.{Key, noKey, Keys, keyText, behindLength, intTree, tinyTree}
+use Rattle.fractured_json_rules.specs.Verdict.{Counted, counted, verdict}
+
+-- ---- ends
+
+abbrev pub lengthIn : List ℕ → ℕ → Len → ℕ
+lengthIn doc o (tiny n) = n
+lengthIn doc o (behind w) = number doc (o + 1) (bytes w)
+
+-- a v_uint16 behind the byte at o, whose bytes are b0, b1 and b2
+unfoldable pub spelledIn : ℕ → ℕ → ℕ → ℕ → Counted
+spelledIn o b0 b1 b2 =
+    choose (ltb b0 128) (counted b0 (o + 2))
+    (choose (ltb b1 128) (counted (b0 - 128 + 128 * b1) (o + 3))
+    (counted (b0 - 128 + 128 * (b1 - 128) + 16_384 * b2) (o + 4)))
+
+-- the number of a key at o, and where that ends
+abbrev pub indexIn : List ℕ → ℕ → Index → Counted
+indexIn doc o (inByte n) = counted n (o + 1)
+indexIn doc o spelled = spelledIn o (getD doc (o + 1) 0) (getD doc (o + 2) 0) (getD doc (o + 3) 0)
+
+abbrev pub keyEndBy : List ℕ → ℕ → KeyForm → ℕ
+keyEndBy doc o (immediate x) = indexIn doc o x .past + indexIn doc o x .is
+keyEndBy doc o (backReference x) = indexIn doc o x .past
+keyEndBy doc o (globalIndex x) = indexIn doc o x .past
+keyEndBy doc o kReserved = o
+
+-- where the key at o ends, and so its value starts
+unfoldable pub keyEnd : List ℕ → ℕ → ℕ
+keyEnd doc o = keyEndBy doc o (keyFormOf (getD doc o 0))
+
+-- n steps from o
+unfoldable pub steps : (ℕ → ℕ) → ℕ → ℕ → ℕ
+steps f zero o = o
+steps f (suc n) o = steps f n (f o)
+
+unfoldable pub endBy : List ℕ → (ℕ → ℕ) → ℕ → Form → ℕ
+endBy doc inner o fNull = o + 1
+endBy doc inner o (fBool b) = o + 1
+endBy doc inner o (fInt s w) = o + 1 + bytes w
+endBy doc inner o (fFloat f w) = o + 1 + bytes w
+endBy doc inner o (fTiny b) = o + 1
+endBy doc inner o (fString x) = behindLength o x + lengthIn doc o x
+endBy doc inner o (fObject x) = steps (λ m. inner (keyEnd doc m)) (lengthIn doc o x) (behindLength o x)
+endBy doc inner o (fArray x) = steps inner (lengthIn doc o x) (behindLength o x)
+endBy doc inner o fReserved = o
+
+-- where the value at o ends, in which containers are nested so many levels deep or less
+unfoldable pub endAt : ℕ → List ℕ → ℕ → ℕ
+endAt zero doc o = endBy doc (λ m. m) o (formOf (getD doc o 0))
+endAt (suc levels) doc o = endBy doc (endAt levels doc) o (formOf (getD doc o 0))
+
+-- ---- the tree; ks are all the immediate keys of the document
+
+abbrev pub keyTextBy : List ℕ → Keys → ℕ → KeyForm → List ℕ
+keyTextBy doc ks o (immediate x) = part doc (indexIn doc o x .past) (indexIn doc o x .is)
+keyTextBy doc ks o (backReference x) = keyText doc (getD ks (indexIn doc o x .is) noKey)
+keyTextBy doc ks o (globalIndex x) = []
+keyTextBy doc ks o kReserved = []
+
+unfoldable pub keyTextAt : List ℕ → Keys → ℕ → List ℕ
+keyTextAt doc ks o = keyTextBy doc ks o (keyFormOf (getD doc o 0))
+
+-- n values from o on, and n members; `tree` and `past` are of the value at an offset
+unfoldable pub valueTrees : (ℕ → Tree) → (ℕ → ℕ) → ℕ → ℕ → Trees
+valueTrees tree past zero o = none
+valueTrees tree past (suc n) o = more (tree o) (valueTrees tree past n (past o))
+
+unfoldable pub memberTrees : List ℕ → Keys → (ℕ → Tree) → (ℕ → ℕ) → ℕ → ℕ → Members
+memberTrees doc ks tree past zero o = end
+memberTrees doc ks tree past (suc n) o = member (keyTextAt doc ks o) (tree (keyEnd doc o)) (memberTrees doc ks tree past n (past (keyEnd doc o)))
+
+unfoldable pub treeBy : List ℕ → Keys → (ℕ → Tree) → (ℕ → ℕ) → ℕ → Form → Tree
+treeBy doc ks tree past o fNull = null
+treeBy doc ks tree past o (fBool b) = bool b
+treeBy doc ks tree past o (fInt s w) = intTree s w (number doc (o + 1) (bytes w))
+treeBy doc ks tree past o (fFloat f w) = floatTree f (number doc (o + 1) (bytes w))
+treeBy doc ks tree past o (fTiny b) = tinyTree b
+treeBy doc ks tree past o (fString x) = str (part doc (behindLength o x) (lengthIn doc o x))
+treeBy doc ks tree past o (fObject x) = obj (memberTrees doc ks tree past (lengthIn doc o x) (behindLength o x))
+treeBy doc ks tree past o (fArray x) = arr (valueTrees tree past (lengthIn doc o x) (behindLength o x))
+treeBy doc ks tree past o fReserved = null
+
+unfoldable pub treeAt : ℕ → List ℕ → Keys → ℕ → Tree
+treeAt zero doc ks o = treeBy doc ks (λ m. null) (λ m. m) o (formOf (getD doc o 0))
+treeAt (suc levels) doc ks o = treeBy doc ks (treeAt levels doc ks) (endAt levels doc) o (formOf (getD doc o 0))
+
+-- the keys that a check passed
+abbrev pub keysOf : Outcome Keys (Unit {0}) → Keys
+keysOf (halt number place ks) = ks
+keysOf (done u ks) = ks
+
+-- the tree of a document whose check has room for so many keys
+unfoldable pub treeOf : ℕ → List ℕ → Tree
+treeOf room doc = treeAt deepest doc (keysOf (verdict room doc)) 3

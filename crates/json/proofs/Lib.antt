@@ -1,0 +1,5 @@
+pub mod Number
+pub mod Reading
+pub mod Texts
+pub mod Tree
+pub mod Bytes

@@ -1,0 +1,82 @@
+-- The laws of reading that may be refused: what a chain of readings says of its steps, and how it is put together.
+use mathlib.Core.Path.{_≡_, refl, sym, ap, _∙_}
+use mathlib.Core.Bool.{Bool, true, false}
+use Prim.Native.Nat.{ℕ}
+use native.Mathlib.Omega.{arith}
+use lib.Dec.{T}
+use Rattle.json.specs.Reading.{Outcome, halt, done, Reading, follow, _>>=_, need}
+
+pub halt≢done : {S A : Type 0} {n p : ℕ} {s z : S} {a : A} → halt n p s ≡ done a z → ⊥
+halt≢done e = let w : _≡_ {A = ℕ} 0 1 = cc in omega arith
+
+pub done-answer : {S A : Type 0} {a b : A} {s z : S} → done a s ≡ done b z → a ≡ b
+done-answer e = cc
+
+pub done-kept : {S A : Type 0} {a b : A} {s z : S} → done a s ≡ done b z → s ≡ z
+done-kept e = cc
+
+-- ---- a chain that is done: so is its first step, and so is the rest
+
+pub record Step {S A B : Type 0} (m : Reading S A) (f : A → Reading S B) (s : S) (b : B) (z : S) : Type 0 where
+  pub got : A
+  pub mid : S
+  pub first : m s ≡ done got mid
+  pub rest : f got mid ≡ done b z
+
+step-by : {S A B : Type 0} (m : Reading S A) (f : A → Reading S B) (s : S) (b : B) (z : S) (o : Outcome S A) → m s ≡ o → follow o f ≡ done b z → Step m f s b z
+unfolding follow
+step-by m f s b z (halt n p x) e h = absurd (halt≢done h)
+step-by m f s b z (done a x) e h = record { got = a; mid = x; first = e; rest = h }
+
+pub step : {S A B : Type 0} (m : Reading S A) (f : A → Reading S B) (s : S) {b : B} {z : S} → (m >>= f) s ≡ done b z → Step m f s b z
+unfolding _>>=_
+step m f s h = step-by m f s _ _ (m s) refl h
+
+pub record Passed {S B : Type 0} (t : Bool) (after : Outcome S B) (b : B) (z : S) : Type 0 where
+  pub test : T t
+  pub rest : after ≡ done b z
+
+pub passed : {S B : Type 0} (t : Bool) (n p : ℕ) (f : Unit {0} → Reading S B) (s : S) {b : B} {z : S} → (need t n p >>= f) s ≡ done b z → Passed t (f tt s) b z
+unfolding _>>=_ follow need
+passed true n p f s h = record { test = tt; rest = h }
+passed false n p f s h = absurd (halt≢done h)
+
+pub need-done : {S : Type 0} (t : Bool) (n p : ℕ) (s : S) {u : Unit {0}} {z : S} → need t n p s ≡ done u z → T t
+unfolding need
+need-done true n p s h = tt
+need-done false n p s h = absurd (halt≢done h)
+
+-- ---- putting a chain together
+
+pub then : {S A B : Type 0} (m : Reading S A) (f : A → Reading S B) (s : S) {a : A} {z : S} → m s ≡ done a z → (m >>= f) s ≡ f a z
+unfolding _>>=_ follow
+then m f s h = rw h
+
+pub stops : {S A B : Type 0} (m : Reading S A) (f : A → Reading S B) (s : S) {n p : ℕ} {z : S} → m s ≡ halt n p z → (m >>= f) s ≡ halt n p z
+unfolding _>>=_ follow
+stops m f s h = rw h
+
+pub pass : {S B : Type 0} (t : Bool) (n p : ℕ) (f : Unit {0} → Reading S B) (s : S) → T t → (need t n p >>= f) s ≡ f tt s
+unfolding _>>=_ follow need
+pass true n p f s h = refl
+pass false n p f s h = absurd h
+
+pub fail : {S B : Type 0} (t : Bool) (n p : ℕ) (f : Unit {0} → Reading S B) (s : S) → (T t → ⊥) → (need t n p >>= f) s ≡ halt n p s
+unfolding _>>=_ follow need
+fail true n p f s h = absurd (h tt)
+fail false n p f s h = refl
+
+pub need-yes : {S : Type 0} (t : Bool) (n p : ℕ) (s : S) → T t → need t n p s ≡ done tt s
+unfolding need
+need-yes true n p s h = refl
+need-yes false n p s h = absurd h
+
+-- a chain of chains is one chain
+assoc-by : {S A B C : Type 0} (f : A → Reading S B) (g : B → Reading S C) (o : Outcome S A) → follow (follow o f) g ≡ follow o (λ a. f a >>= g)
+unfolding _>>=_ follow
+assoc-by f g (halt n p s) = refl
+assoc-by f g (done a s) = refl
+
+pub assoc : {S A B C : Type 0} (m : Reading S A) (f : A → Reading S B) (g : B → Reading S C) (s : S) → ((m >>= f) >>= g) s ≡ (m >>= λ a. f a >>= g) s
+unfolding _>>=_
+assoc m f g s = assoc-by f g (m s)

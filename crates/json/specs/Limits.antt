@@ -1,0 +1,20 @@
+-- The limits of document 01, each named once.
+use Prim.Native.Nat.{ℕ}
+
+-- the least length of a BinaryJson and of a Fractured JSON document, and the greatest of both, in bytes
+abbrev pub leastBinary : ℕ
+leastBinary = 12
+
+abbrev pub leastFractured : ℕ
+leastFractured = 4
+
+abbrev pub longest : ℕ
+longest = 65_536
+
+-- how deep containers may be nested; the root container is 1
+abbrev pub deepest : ℕ
+deepest = 32
+
+-- the most keys that a key table has room for
+abbrev pub mostKeys : ℕ
+mostKeys = 4_096

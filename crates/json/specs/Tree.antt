@@ -1,0 +1,98 @@
+-- The tree that a document of either format means: document 01, end of section "FJ, laid out". An array's values and an
+-- object's members stand in document order; a text is its bytes.
+use Prim.Native.Nat.{ℕ, zero, suc, _+_, max}
+use mathlib.Core.Bool.{Bool, true, false, Bool-discrete}
+use mathlib.Core.List.{List, [], _∷_, List-discrete}
+use mathlib.Core.Path.{_≡_}
+use native.Mathlib.Decide.{ℕ-discrete}
+
+-- A number is the whole number that 2 ^ 1074 times it makes, as a sign (true is minus) and a magnitude. So zero has two
+-- signs, and every other number one spelling.
+mutual
+  pub data Tree : Type 0 where
+    null : Tree
+    bool : Bool → Tree
+    num : (minus : Bool) (magnitude : ℕ) → Tree
+    str : List ℕ → Tree
+    arr : Trees → Tree
+    obj : Members → Tree
+    deriving Discrete as Tree-discrete
+
+  pub data Trees : Type 0 where
+    none : Trees
+    more : Tree → Trees → Trees
+
+  pub data Members : Type 0 where
+    end : Members
+    member : (key : List ℕ) → Tree → Members → Members
+
+-- whether two trees are equal is decidable
+pub sameTree : Discrete Tree
+sameTree = Tree-discrete Bool-discrete ℕ-discrete (List-discrete ℕ-discrete)
+
+-- how many values an array, and members an object has
+abbrev pub size : Trees → ℕ
+size none = 0
+size (more t ts) = suc (size ts)
+
+abbrev pub sizem : Members → ℕ
+sizem end = 0
+sizem (member k t ms) = suc (sizem ms)
+
+-- how deep containers are nested: 0 for a scalar
+abbrev mutual
+  pub depth : Tree → ℕ
+  depth null = 0
+  depth (bool b) = 0
+  depth (num s m) = 0
+  depth (str s) = 0
+  depth (arr ts) = suc (depths ts)
+  depth (obj ms) = suc (depthm ms)
+
+  pub depths : Trees → ℕ
+  depths none = 0
+  depths (more t ts) = max (depth t) (depths ts)
+
+  pub depthm : Members → ℕ
+  depthm end = 0
+  depthm (member k t ms) = max (depth t) (depthm ms)
+
+-- how many values stand in a tree, itself and each one below it
+abbrev mutual
+  pub values : Tree → ℕ
+  values null = 1
+  values (bool b) = 1
+  values (num s m) = 1
+  values (str s) = 1
+  values (arr ts) = suc (valuess ts)
+  values (obj ms) = suc (valuesm ms)
+
+  pub valuess : Trees → ℕ
+  valuess none = 0
+  valuess (more t ts) = values t + valuess ts
+
+  pub valuesm : Members → ℕ
+  valuesm end = 0
+  valuesm (member k t ms) = values t + valuesm ms
+
+-- value i of an array is v
+abbrev pub ElementIs : Trees → ℕ → Tree → Type 0
+ElementIs none i v = ⊥
+ElementIs (more t ts) zero v = v ≡ t
+ElementIs (more t ts) (suc i) v = ElementIs ts i v
+
+-- member j of an object has the key k and the value v
+abbrev pub MemberIs : Members → ℕ → List ℕ → Tree → Type 0
+MemberIs end j k v = ⊥
+MemberIs (member x t ms) zero k v = (k ≡ x) × (v ≡ t)
+MemberIs (member x t ms) (suc j) k v = MemberIs ms j k v
+
+-- no member of an object has the key x
+abbrev pub Lacks : Members → List ℕ → Type 0
+Lacks ms x = (j : ℕ) (v : Tree) → MemberIs ms j x v → ⊥
+
+-- u is the tree t itself, or stands somewhere below it
+pub data Subtree (t : Tree) : Tree → Type 0 where
+  whole : Subtree t t
+  element : (ts : Trees) (i : ℕ) {u : Tree} → Subtree t (arr ts) → ElementIs ts i u → Subtree t u
+  value : (ms : Members) (j : ℕ) (k : List ℕ) {u : Tree} → Subtree t (obj ms) → MemberIs ms j k u → Subtree t u
