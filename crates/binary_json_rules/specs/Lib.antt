@@ -6,3 +6,4 @@ pub mod Leads
 pub mod Questions
 pub mod Halving
 pub mod Lookup
+pub mod Answers

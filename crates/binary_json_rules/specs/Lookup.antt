@@ -51,8 +51,8 @@ afterStrings doc c n broken = refuse 20 c
 
 unfoldable pub quickLookup : {S : Type 0} → List ℕ → ℕ → List ℕ → Reading S Counted
 quickLookup doc c x = do
-    n ← object doc c
-    afterStrings doc c n (strings doc x)
+  n ← object doc c
+  afterStrings doc c n (strings doc x)
 
 -- both counts; a refusal has 0 and 0
 abbrev pub firstCount : Asked Counted → ℕ
@@ -69,10 +69,10 @@ secondCount (done a u) = a .second
 unfoldable pub scanFrom : {S : Type 0} → List ℕ → ℕ → ℕ → List ℕ → ℕ → ℕ → Reading S Found
 scanFrom doc c n x zero j = answer absent
 scanFrom doc c n x (suc left) j = do
-    s ← textNamed doc (word doc (keyEntryOf c j)) c
-    choose (isEqual (compareTexts (part doc (s .place) (s .len)) x)) (answer (entry (entryOf c n j))) (scanFrom doc c n x left (j + 1))
+  s ← textNamed doc (word doc (keyEntryOf c j)) c
+  choose (isEqual (compareTexts (part doc (s .place) (s .len)) x)) (answer (entry (entryOf c n j))) (scanFrom doc c n x left (j + 1))
 
 unfoldable pub plainScan : {S : Type 0} → List ℕ → ℕ → List ℕ → Reading S Found
 plainScan doc c x = do
-    n ← object doc c
-    scanFrom doc c n x n 0
+  n ← object doc c
+  scanFrom doc c n x n 0

@@ -16,16 +16,16 @@ use Rattle.binary_json_rules.specs.TreeOf.{slotAt}
 
 unfoldable pub opening : {S : Type 0} → List ℕ → ℕ → Reading S (Unit {0})
 opening doc c = do
-    header doc
-    need (leb (slot doc (count doc)) (numbers doc)) 20 c
-    need (leb (numbers doc) (length doc)) 20 c
+  header doc
+  need (leb (slot doc (count doc)) (numbers doc)) 20 c
+  need (leb (numbers doc) (length doc)) 20 c
 
 -- a word of the tree stands at a: words stand at 4, 8, .. S-4
 unfoldable pub treeWord : {S : Type 0} → List ℕ → ℕ → ℕ → Reading S (Unit {0})
 treeWord doc a c = do
-    need (leb 4 a) 20 c
-    need (eqb (a % 4) 0) 20 c
-    need (leb (a + 4) (index doc)) 20 c
+  need (leb 4 a) 20 c
+  need (eqb (a % 4) 0) 20 c
+  need (leb (a + 4) (index doc)) 20 c
 
 -- ---- at a Meta: kind and size, element i, member j
 
@@ -45,10 +45,10 @@ bodyBy doc c n kOther = refuse 21 c
 
 unfoldable pub kindAndSize : {S : Type 0} → List ℕ → ℕ → Reading S Sized
 kindAndSize doc c = do
-    opening doc c
-    treeWord doc c c
-    bodyBy doc c (high doc c) (kindOf (low doc c))
-    answer (record { kind = low doc c; size = high doc c })
+  opening doc c
+  treeWord doc c c
+  bodyBy doc c (high doc c) (kindOf (low doc c))
+  answer (record { kind = low doc c; size = high doc c })
 
 -- elements are asked of kinds 0 and 2
 unfoldable pub elementsBy : {S : Type 0} → List ℕ → ℕ → ℕ → Kind → Reading S (Unit {0})
@@ -60,11 +60,11 @@ elementsBy doc c n kOther = refuse 21 c
 -- the offset of the Entry that is element i; nothing is asked about the Entry
 unfoldable pub element : {S : Type 0} → List ℕ → ℕ → ℕ → Reading S ℕ
 element doc c i = do
-    opening doc c
-    treeWord doc c c
-    elementsBy doc c (high doc c) (kindOf (low doc c))
-    need (ltb i (high doc c)) 22 c
-    answer (c + 4 + 4 * i)
+  opening doc c
+  treeWord doc c c
+  elementsBy doc c (high doc c) (kindOf (low doc c))
+  need (ltb i (high doc c)) 22 c
+  answer (c + 4 + 4 * i)
 
 -- members are asked of kind 1
 unfoldable pub membersBy : {S : Type 0} → List ℕ → ℕ → ℕ → Kind → Reading S (Unit {0})
@@ -76,10 +76,10 @@ membersBy doc c n kOther = refuse 21 c
 -- the size of the object at c
 unfoldable pub object : {S : Type 0} → List ℕ → ℕ → Reading S ℕ
 object doc c = do
-    opening doc c
-    treeWord doc c c
-    membersBy doc c (high doc c) (kindOf (low doc c))
-    answer (high doc c)
+  opening doc c
+  treeWord doc c c
+  membersBy doc c (high doc c) (kindOf (low doc c))
+  answer (high doc c)
 
 pub record MemberAt : Type 0 where
   pub slot : ℕ
@@ -95,31 +95,31 @@ entryOf c n j = c + 4 + 4 * n + 4 * j
 -- the offsets of the slot and of the Entry of member j; of its KeyEntry only that it is a slot's offset
 unfoldable pub memberAt : {S : Type 0} → List ℕ → ℕ → ℕ → Reading S MemberAt
 memberAt doc c j = do
-    n ← object doc c
-    need (ltb j n) 22 c
-    slotNamed doc (word doc (keyEntryOf c j)) 20 c
-    answer (record { slot = word doc (keyEntryOf c j); entry = entryOf c n j })
+  n ← object doc c
+  need (ltb j n) 22 c
+  slotNamed doc (word doc (keyEntryOf c j)) 20 c
+  answer (record { slot = word doc (keyEntryOf c j); entry = entryOf c n j })
 
 -- ---- at a slot: its text
 
 -- slot k is good to read if S+4+4C ≤ start < end ≤ N; its content ends before the closing byte
 unfoldable pub slotRead : {S : Type 0} → List ℕ → ℕ → ℕ → Reading S Span
 slotRead doc k c = do
-    need (leb (slot doc (count doc)) (text doc k)) 20 c
-    need (ltb (text doc k) (text doc (suc k))) 20 c
-    need (leb (text doc (suc k)) (numbers doc)) 20 c
-    answer (record { place = text doc k; len = text doc (suc k) - 1 - text doc k })
+  need (leb (slot doc (count doc)) (text doc k)) 20 c
+  need (ltb (text doc k) (text doc (suc k))) 20 c
+  need (leb (text doc (suc k)) (numbers doc)) 20 c
+  answer (record { place = text doc k; len = text doc (suc k) - 1 - text doc k })
 
 -- the text of the slot at the offset v
 unfoldable pub textNamed : {S : Type 0} → List ℕ → ℕ → ℕ → Reading S Span
 textNamed doc v c = do
-    slotNamed doc v 20 c
-    slotRead doc (slotAt doc v) c
+  slotNamed doc v 20 c
+  slotRead doc (slotAt doc v) c
 
 unfoldable pub slotText : {S : Type 0} → List ℕ → ℕ → Reading S Span
 slotText doc c = do
-    opening doc c
-    textNamed doc c c
+  opening doc c
+  textNamed doc c c
 
 -- the second way: the text itself
 abbrev pub slotBytes : List ℕ → ℕ → List ℕ
@@ -138,9 +138,9 @@ typeBy c n tOther = refuse 21 c
 
 unfoldable pub entryType : {S : Type 0} → List ℕ → ℕ → Reading S ℕ
 entryType doc c = do
-    opening doc c
-    treeWord doc c c
-    typeBy c (low doc c) (typeOf (low doc c))
+  opening doc c
+  treeWord doc c c
+  typeBy c (low doc c) (typeOf (low doc c))
 
 -- refuse 21 unless the type is the one asked for
 unfoldable pub isContainer : {S : Type 0} → ℕ → EntryType → Reading S (Unit {0})
@@ -173,18 +173,18 @@ isNumber c tOther = refuse 21 c
 -- the offset of the container; of it only that its Meta word lies in the tree
 unfoldable pub containerAt : {S : Type 0} → List ℕ → ℕ → Reading S ℕ
 containerAt doc c = do
-    opening doc c
-    treeWord doc c c
-    isContainer c (typeOf (low doc c))
-    treeWord doc (high doc c) c
-    answer (high doc c)
+  opening doc c
+  treeWord doc c c
+  isContainer c (typeOf (low doc c))
+  treeWord doc (high doc c) c
+  answer (high doc c)
 
 unfoldable pub stringAt : {S : Type 0} → List ℕ → ℕ → Reading S Span
 stringAt doc c = do
-    opening doc c
-    treeWord doc c c
-    isString c (typeOf (low doc c))
-    textNamed doc (high doc c) c
+  opening doc c
+  treeWord doc c c
+  isString c (typeOf (low doc c))
+  textNamed doc (high doc c) c
 
 abbrev pub stringBytes : List ℕ → ℕ → List ℕ
 stringBytes doc c = spanned doc (ask (stringAt doc c))
@@ -192,8 +192,8 @@ stringBytes doc c = spanned doc (ask (stringAt doc c))
 -- the 64 bits of the number; 10 if it is not finite
 unfoldable pub numberAt : {S : Type 0} → List ℕ → ℕ → Reading S ℕ
 numberAt doc c = do
-    opening doc c
-    treeWord doc c c
-    isNumber c (typeOf (low doc c))
-    numberNamed doc (high doc c) 20 c
-    answer (number doc (high doc c) 8)
+  opening doc c
+  treeWord doc c c
+  isNumber c (typeOf (low doc c))
+  numberNamed doc (high doc c) 20 c
+  answer (number doc (high doc c) 8)

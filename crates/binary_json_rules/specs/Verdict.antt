@@ -18,13 +18,13 @@ use Rattle.binary_json_rules.specs.Areas.{word, low, high, index, count,
 
 unfoldable pub header : {S : Type 0} → List ℕ → Reading S (Unit {0})
 header doc = do
-    need (leb leastBinary (length doc)) 1 (length doc)
-    need (leb (length doc) longest) 2 (length doc)
-    need (eqb (low doc 0) 1) 3 0
-    need (leb 8 (index doc)) 4 0
-    need (eqb (index doc % 4) 0) 4 0
-    need (leb (index doc + 4) (length doc)) 4 0
-    need (leb (slot doc (count doc)) (length doc)) 4 (index doc)
+  need (leb leastBinary (length doc)) 1 (length doc)
+  need (leb (length doc) longest) 2 (length doc)
+  need (eqb (low doc 0) 1) 3 0
+  need (leb 8 (index doc)) 4 0
+  need (eqb (index doc % 4) 0) 4 0
+  need (leb (index doc + 4) (length doc)) 4 0
+  need (leb (slot doc (count doc)) (length doc)) 4 (index doc)
 
 -- ---- 5 and 6
 
@@ -37,38 +37,38 @@ ascends doc (suc k) = isBelow (compareTexts (content doc k) (content doc (suc k)
 unfoldable pub slots : {S : Type 0} → List ℕ → ℕ → ℕ → Reading S (Unit {0})
 slots doc zero k = answer tt
 slots doc (suc n) k = do
-    need (eqb (low doc (slot doc k)) 0) 5 (slot doc k)
-    need (ltb (text doc k) (text doc (suc k))) 5 (slot doc k)
-    need (leb (text doc (suc k)) (length doc)) 5 (slot doc k)
-    need (eqb (getD doc (text doc (suc k) - 1) 0) 0) 5 (slot doc k)
-    need (ascends doc k) 6 (slot doc k)
-    slots doc n (suc k)
+  need (eqb (low doc (slot doc k)) 0) 5 (slot doc k)
+  need (ltb (text doc k) (text doc (suc k))) 5 (slot doc k)
+  need (leb (text doc (suc k)) (length doc)) 5 (slot doc k)
+  need (eqb (getD doc (text doc (suc k) - 1) 0) 0) 5 (slot doc k)
+  need (ascends doc k) 6 (slot doc k)
+  slots doc n (suc k)
 
 -- ---- what a word may name; the number and the place of the refusal are the caller's
 
 -- v is the offset of a slot
 unfoldable pub slotNamed : {S : Type 0} → List ℕ → ℕ → ℕ → ℕ → Reading S (Unit {0})
 slotNamed doc v number place = do
-    need (leb (slot doc 0) v) number place
-    need (eqb ((v - slot doc 0) % 4) 0) number place
-    need (ltb v (slot doc (count doc))) number place
+  need (leb (slot doc 0) v) number place
+  need (eqb ((v - slot doc 0) % 4) 0) number place
+  need (ltb v (slot doc (count doc))) number place
 
 -- v is the offset of a number, in step inside its area; and the number is finite, else 10
 unfoldable pub numberNamed : {S : Type 0} → List ℕ → ℕ → ℕ → ℕ → Reading S (Unit {0})
 numberNamed doc v refusal place = do
-    need (leb (numbers doc) v) refusal place
-    need (eqb ((v - numbers doc) % 8) 0) refusal place
-    need (leb (v + 8) (length doc)) refusal place
-    need (finite binary64 (number doc v 8)) 10 place
+  need (leb (numbers doc) v) refusal place
+  need (eqb ((v - numbers doc) % 8) 0) refusal place
+  need (leb (v + 8) (length doc)) refusal place
+  need (finite binary64 (number doc v 8)) 10 place
 
 -- ---- 11: n KeyEntries from q on, the first above p
 
 unfoldable pub keyEntries : {S : Type 0} → List ℕ → ℕ → ℕ → ℕ → Reading S (Unit {0})
 keyEntries doc zero p q = answer tt
 keyEntries doc (suc n) p q = do
-    slotNamed doc (word doc q) 11 q
-    need (ltb p (word doc q)) 11 q
-    keyEntries doc n (word doc q) (q + 4)
+  slotNamed doc (word doc q) 11 q
+  need (ltb p (word doc q)) 11 q
+  keyEntries doc n (word doc q) (q + 4)
 
 -- ---- 9 and 10: Entries; d is the place due for the next container, and the answer the place due afterwards
 
@@ -78,14 +78,14 @@ entryBy doc child a d tFalse = answer d
 entryBy doc child a d tTrue = answer d
 entryBy doc child a d tNull = answer d
 entryBy doc child a d tString = do
-    slotNamed doc (high doc a) 9 a
-    answer d
+  slotNamed doc (high doc a) 9 a
+  answer d
 entryBy doc child a d tNumber = do
-    numberNamed doc (high doc a) 9 a
-    answer d
+  numberNamed doc (high doc a) 9 a
+  answer d
 entryBy doc child a d tContainer = do
-    need (eqb (high doc a) d) 9 a
-    child d
+  need (eqb (high doc a) d) 9 a
+  child d
 entryBy doc child a d tOther = refuse 9 a
 
 unfoldable pub entry : {S : Type 0} → List ℕ → (ℕ → Reading S ℕ) → ℕ → ℕ → Reading S ℕ
@@ -95,20 +95,20 @@ entry doc child a d = entryBy doc child a d (typeOf (low doc a))
 unfoldable pub entries : {S : Type 0} → List ℕ → (ℕ → Reading S ℕ) → ℕ → ℕ → ℕ → Reading S ℕ
 entries doc child zero a d = answer d
 entries doc child (suc n) a d = do
-    next ← entry doc child a d
-    entries doc child n (a + 4) next
+  next ← entry doc child a d
+  entries doc child n (a + 4) next
 
 -- ---- 12 and 8: containers; the answer is the end of the subtree
 
 -- the container at o, of size n, by its kind; one of kind 2 below the root is refused
 unfoldable pub containerBy : {S : Type 0} → List ℕ → (ℕ → Reading S ℕ) → ℕ → ℕ → Kind → Reading S ℕ
 containerBy doc child o n kArray = do
-    need (leb (o + 4 + 4 * n) (index doc)) 8 o
-    entries doc child n (o + 4) (o + 4 + 4 * n)
+  need (leb (o + 4 + 4 * n) (index doc)) 8 o
+  entries doc child n (o + 4) (o + 4 + 4 * n)
 containerBy doc child o n kObject = do
-    need (leb (o + 4 + 4 * (2 * n)) (index doc)) 8 o
-    keyEntries doc n 0 (o + 4)
-    entries doc child n (o + 4 + 4 * n) (o + 4 + 8 * n)
+  need (leb (o + 4 + 4 * (2 * n)) (index doc)) 8 o
+  keyEntries doc n 0 (o + 4)
+  entries doc child n (o + 4 + 4 * n) (o + 4 + 8 * n)
 containerBy doc child o n kScalar = refuse 8 o
 containerBy doc child o n kOther = refuse 8 o
 
@@ -116,15 +116,15 @@ containerBy doc child o n kOther = refuse 8 o
 unfoldable pub container : {S : Type 0} → ℕ → List ℕ → ℕ → Reading S ℕ
 container zero doc o = refuse 12 o
 container (suc levels) doc o = do
-    need (leb (o + 4) (index doc)) 8 o
-    containerBy doc (container levels doc) o (high doc o) (kindOf (low doc o))
+  need (leb (o + 4) (index doc)) 8 o
+  containerBy doc (container levels doc) o (high doc o) (kindOf (low doc o))
 
 -- the root container of kind 2: one Entry, which is no container
 unfoldable pub scalar : {S : Type 0} → List ℕ → Reading S ℕ
 scalar doc = do
-    need (eqb (high doc 4) 1) 8 4
-    need (leb 12 (index doc)) 8 4
-    entry doc (λ d. refuse 9 8) 8 12
+  need (eqb (high doc 4) 1) 8 4
+  need (leb 12 (index doc)) 8 4
+  entry doc (λ d. refuse 9 8) 8 12
 
 unfoldable pub rootBy : {S : Type 0} → List ℕ → Kind → Reading S ℕ
 rootBy doc kArray = container deepest doc 4
@@ -136,11 +136,11 @@ rootBy doc kOther = container deepest doc 4
 
 unfoldable pub check : {S : Type 0} → List ℕ → Reading S (Unit {0})
 check doc = do
-    header doc
-    slots doc (count doc) 0
-    need (eqb ((length doc - numbers doc) % 8) 0) 7 (numbers doc)
-    end ← rootBy doc (kindOf (low doc 4))
-    need (eqb end (index doc)) 13 end
+  header doc
+  slots doc (count doc) 0
+  need (eqb ((length doc - numbers doc) % 8) 0) 7 (numbers doc)
+  end ← rootBy doc (kindOf (low doc 4))
+  need (eqb end (index doc)) 13 end
 
 abbrev pub verdict : List ℕ → Asked (Unit {0})
 verdict doc = ask (check doc)

@@ -2,12 +2,13 @@
 -- each member's value of one it leads to. Element i stands behind the i values before it, a member behind the members
 -- before it, and its value behind its key.
 use Prim.Native.Nat.{ℕ, _+_, _<_}
-use mathlib.Core.List.{List}
+use mathlib.Core.List.{List, _++_}
 use mathlib.Core.Path.{_≡_}
 use lib.ListN.{getD}
 use Rattle.json.specs.Limits.{deepest}
+use Rattle.json.specs.Tree.{Tree}
 use Rattle.fractured_json_rules.specs.ByteTables.{Len, fObject, fArray, formOf}
-use Rattle.fractured_json_rules.specs.Meaning.{behindLength}
+use Rattle.fractured_json_rules.specs.Meaning.{behindLength, Keys, ValueIs}
 use Rattle.fractured_json_rules.specs.TreeOf.{lengthIn, keyEnd, steps, endAt}
 
 -- where element i of the array at o stands, and the key byte of member j of the object at o
@@ -21,3 +22,19 @@ pub data Leads (doc : List ℕ) : ℕ → Type 0 where
   root : Leads doc 3
   element : (o : ℕ) (x : Len) (i : ℕ) → Leads doc o → formOf (getD doc o 0) ≡ fArray x → i < lengthIn doc o x → Leads doc (elementPlace doc o x i)
   value : (o : ℕ) (x : Len) (j : ℕ) → Leads doc o → formOf (getD doc o 0) ≡ fObject x → j < lengthIn doc o x → Leads doc (keyEnd doc (keyPlace doc o x j))
+
+-- ---- what a value stands for
+
+-- met are the first of the keys ks
+pub record FirstOf (met ks : Keys) : Type 0 where
+  pub rest : Keys
+  pub same : ks ≡ met ++ rest
+
+-- The value at o stands for the tree u, in a document whose immediate keys are ks; some first of them are met before the
+-- value, and some up to its end.
+pub record StandsFor (doc : List ℕ) (ks : Keys) (o : ℕ) (u : Tree) : Type 0 where
+  pub before : Keys
+  pub past : ℕ
+  pub met : Keys
+  pub value : ValueIs doc u o before past met
+  pub first : FirstOf met ks

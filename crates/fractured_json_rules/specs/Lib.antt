@@ -5,3 +5,4 @@ pub mod KeyTable
 pub mod TreeOf
 pub mod Leads
 pub mod Questions
+pub mod Answers

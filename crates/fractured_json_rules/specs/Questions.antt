@@ -24,8 +24,8 @@ use Rattle.fractured_json_rules.specs.KeyTable.{roomOf, keyOf}
 
 unfoldable pub opening : {S : Type 0} → List ℕ → ℕ → Reading S (Unit {0})
 opening doc c = do
-    header doc
-    need (leb 3 c) 20 c
+  header doc
+  need (leb 3 c) 20 c
 
 -- ---- a key as a question reads it: back references go by the key table and count handed in
 
@@ -36,39 +36,39 @@ pub record KeyRead : Type 0 where
 
 unfoldable pub textKey : {S : Type 0} → List ℕ → ℕ → Counted → Reading S KeyRead
 textKey doc o n = do
-    need (leb (n .past + n .is) (length doc)) 35 o
-    answer (record { bytes = part doc (n .past) (n .is); past = n .past + n .is })
+  need (leb (n .past + n .is) (length doc)) 35 o
+  answer (record { bytes = part doc (n .past) (n .is); past = n .past + n .is })
 
 -- 38 unless the index is under the count, the count not over the room, and the pair inside the document
 unfoldable pub backKey : {S : Type 0} → List ℕ → List ℕ → ℕ → ℕ → Counted → Reading S KeyRead
 backKey doc words count o n = do
-    need (ltb (n .is) count) 38 o
-    need (leb count (roomOf words)) 38 o
-    need (leb (keyOf words (n .is) .start + keyOf words (n .is) .len) (length doc)) 38 o
-    answer (record { bytes = keyText doc (keyOf words (n .is)); past = n .past })
+  need (ltb (n .is) count) 38 o
+  need (leb count (roomOf words)) 38 o
+  need (leb (keyOf words (n .is) .start + keyOf words (n .is) .len) (length doc)) 38 o
+  answer (record { bytes = keyText doc (keyOf words (n .is)); past = n .past })
 
 unfoldable pub readKeyBy : {S : Type 0} → List ℕ → List ℕ → ℕ → ℕ → KeyForm → Reading S KeyRead
 readKeyBy doc words count o (immediate x) = do
-    n ← indexAt doc o x
-    textKey doc o n
+  n ← indexAt doc o x
+  textKey doc o n
 readKeyBy doc words count o (backReference x) = do
-    n ← indexAt doc o x
-    backKey doc words count o n
+  n ← indexAt doc o x
+  backKey doc words count o n
 readKeyBy doc words count o (globalIndex x) = do
-    _ ← indexAt doc o x
-    refuse 38 o
+  _ ← indexAt doc o x
+  refuse 38 o
 readKeyBy doc words count o kReserved = refuse 36 o
 
 unfoldable pub readKey : {S : Type 0} → List ℕ → List ℕ → ℕ → ℕ → Reading S KeyRead
 readKey doc words count o = do
-    b ← byteAt doc o o
-    readKeyBy doc words count o (keyFormOf b)
+  b ← byteAt doc o o
+  readKeyBy doc words count o (keyFormOf b)
 
 -- the key's end alone, for the walk
 unfoldable pub passKey : {S : Type 0} → List ℕ → List ℕ → ℕ → ℕ → Reading S ℕ
 passKey doc words count o = do
-    k ← readKey doc words count o
-    answer (k .past)
+  k ← readKey doc words count o
+  answer (k .past)
 
 -- the walk over a value, with so many levels left
 abbrev pub walk : {S : Type 0} → ℕ → List ℕ → List ℕ → ℕ → ℕ → Reading S ℕ
@@ -82,8 +82,8 @@ inner = deepest - 1
 
 unfoldable pub endOf : {S : Type 0} → List ℕ → List ℕ → ℕ → ℕ → Reading S ℕ
 endOf doc words count c = do
-    opening doc c
-    walk deepest doc words count c
+  opening doc c
+  walk deepest doc words count c
 
 -- ---- its kind, with the length of a string or container
 
@@ -99,21 +99,21 @@ kindBy doc c (fInt s w) = answer isNumber
 kindBy doc c (fFloat f w) = answer isNumber
 kindBy doc c (fTiny b) = answer isNumber
 kindBy doc c (fString x) = do
-    n ← lengthAt doc c x
-    answer (isString n)
+  n ← lengthAt doc c x
+  answer (isString n)
 kindBy doc c (fObject x) = do
-    n ← lengthAt doc c x
-    answer (isObject n)
+  n ← lengthAt doc c x
+  answer (isObject n)
 kindBy doc c (fArray x) = do
-    n ← lengthAt doc c x
-    answer (isArray n)
+  n ← lengthAt doc c x
+  answer (isArray n)
 kindBy doc c fReserved = refuse 36 c
 
 unfoldable pub kind : {S : Type 0} → List ℕ → ℕ → Reading S Kind
 kind doc c = do
-    opening doc c
-    b ← byteAt doc c c
-    kindBy doc c (formOf b)
+  opening doc c
+  b ← byteAt doc c c
+  kindBy doc c (formOf b)
 
 -- ---- its number: type byte and 64 bits
 
@@ -133,12 +133,12 @@ unfoldable pub numberBy : {S : Type 0} → List ℕ → ℕ → ℕ → Form →
 numberBy doc c b fNull = refuse 21 c
 numberBy doc c b (fBool x) = refuse 21 c
 numberBy doc c b (fInt s w) = do
-    n ← payload doc c (bytes w)
-    answer (record { type = b; bits = extended s w n })
+  n ← payload doc c (bytes w)
+  answer (record { type = b; bits = extended s w n })
 numberBy doc c b (fFloat f w) = do
-    n ← payload doc c (bytes w)
-    need (finite f n) 43 c
-    answer (record { type = b; bits = n })
+  n ← payload doc c (bytes w)
+  need (finite f n) 43 c
+  answer (record { type = b; bits = n })
 numberBy doc c b (fTiny x) = answer (record { type = b; bits = tinyBits x })
 numberBy doc c b (fString x) = refuse 21 c
 numberBy doc c b (fObject x) = refuse 21 c
@@ -147,9 +147,9 @@ numberBy doc c b fReserved = refuse 36 c
 
 unfoldable pub numberAt : {S : Type 0} → List ℕ → ℕ → Reading S Bits
 numberAt doc c = do
-    opening doc c
-    b ← byteAt doc c c
-    numberBy doc c b (formOf b)
+  opening doc c
+  b ← byteAt doc c c
+  numberBy doc c b (formOf b)
 
 -- ---- its string, both ways
 
@@ -160,18 +160,18 @@ stringBy doc c (fInt s w) = refuse 21 c
 stringBy doc c (fFloat f w) = refuse 21 c
 stringBy doc c (fTiny b) = refuse 21 c
 stringBy doc c (fString x) = do
-    n ← lengthAt doc c x
-    need (leb (behindLength c x + n) (length doc)) 35 c
-    answer (record { place = behindLength c x; len = n })
+  n ← lengthAt doc c x
+  need (leb (behindLength c x + n) (length doc)) 35 c
+  answer (record { place = behindLength c x; len = n })
 stringBy doc c (fObject x) = refuse 21 c
 stringBy doc c (fArray x) = refuse 21 c
 stringBy doc c fReserved = refuse 36 c
 
 unfoldable pub stringAt : {S : Type 0} → List ℕ → ℕ → Reading S Span
 stringAt doc c = do
-    opening doc c
-    b ← byteAt doc c c
-    stringBy doc c (formOf b)
+  opening doc c
+  b ← byteAt doc c c
+  stringBy doc c (formOf b)
 
 -- the second way: the text itself
 abbrev pub stringBytes : List ℕ → ℕ → List ℕ
@@ -189,8 +189,8 @@ arrayBy doc c rest (fTiny b) = refuse 21 c
 arrayBy doc c rest (fString x) = refuse 21 c
 arrayBy doc c rest (fObject x) = refuse 21 c
 arrayBy doc c rest (fArray x) = do
-    n ← lengthAt doc c x
-    rest n (behindLength c x)
+  n ← lengthAt doc c x
+  rest n (behindLength c x)
 arrayBy doc c rest fReserved = refuse 36 c
 
 unfoldable pub objectBy : {S A : Type 0} → List ℕ → ℕ → (ℕ → ℕ → Reading S A) → Form → Reading S A
@@ -201,22 +201,22 @@ objectBy doc c rest (fFloat f w) = refuse 21 c
 objectBy doc c rest (fTiny b) = refuse 21 c
 objectBy doc c rest (fString x) = refuse 21 c
 objectBy doc c rest (fObject x) = do
-    n ← lengthAt doc c x
-    rest n (behindLength c x)
+  n ← lengthAt doc c x
+  rest n (behindLength c x)
 objectBy doc c rest (fArray x) = refuse 21 c
 objectBy doc c rest fReserved = refuse 36 c
 
 -- where element i stands
 unfoldable pub elementFrom : {S : Type 0} → List ℕ → List ℕ → ℕ → ℕ → ℕ → ℕ → ℕ → Reading S ℕ
 elementFrom doc words count c i n at = do
-    need (ltb i n) 22 c
-    inTurn (walk inner doc words count) i at
+  need (ltb i n) 22 c
+  inTurn (walk inner doc words count) i at
 
 unfoldable pub elementAt : {S : Type 0} → List ℕ → List ℕ → ℕ → ℕ → ℕ → Reading S ℕ
 elementAt doc words count c i = do
-    opening doc c
-    b ← byteAt doc c c
-    arrayBy doc c (λ n at. elementFrom doc words count c i n at) (formOf b)
+  opening doc c
+  b ← byteAt doc c c
+  arrayBy doc c (λ n at. elementFrom doc words count c i n at) (formOf b)
 
 -- where the key byte and the value of member j stand
 pub record MemberAt : Type 0 where
@@ -225,16 +225,16 @@ pub record MemberAt : Type 0 where
 
 unfoldable pub memberFrom : {S : Type 0} → List ℕ → List ℕ → ℕ → ℕ → ℕ → ℕ → ℕ → Reading S MemberAt
 memberFrom doc words count c j n at = do
-    need (ltb j n) 22 c
-    o ← inTurn (member (passKey doc words count) (walk inner doc words count)) j at
-    v ← passKey doc words count o
-    answer (record { key = o; value = v })
+  need (ltb j n) 22 c
+  o ← inTurn (member (passKey doc words count) (walk inner doc words count)) j at
+  v ← passKey doc words count o
+  answer (record { key = o; value = v })
 
 unfoldable pub memberAt : {S : Type 0} → List ℕ → List ℕ → ℕ → ℕ → ℕ → Reading S MemberAt
 memberAt doc words count c j = do
-    opening doc c
-    b ← byteAt doc c c
-    objectBy doc c (λ n at. memberFrom doc words count c j n at) (formOf b)
+  opening doc c
+  b ← byteAt doc c c
+  objectBy doc c (λ n at. memberFrom doc words count c j n at) (formOf b)
 
 -- where the value of the first member with the key x stands, or absent
 pub data Found : Type 0 where
@@ -244,11 +244,11 @@ pub data Found : Type 0 where
 -- from the member at o on, with so many behind it; behind the last key nothing is read
 unfoldable pub findFrom : {S : Type 0} → List ℕ → List ℕ → ℕ → List ℕ → ℕ → ℕ → Reading S Found
 findFrom doc words count x zero o = do
-    k ← readKey doc words count o
-    choose (isEqual (compareTexts (k .bytes) x)) (answer (valueAt (k .past))) (answer absent)
+  k ← readKey doc words count o
+  choose (isEqual (compareTexts (k .bytes) x)) (answer (valueAt (k .past))) (answer absent)
 findFrom doc words count x (suc later) o = do
-    k ← readKey doc words count o
-    choose (isEqual (compareTexts (k .bytes) x)) (answer (valueAt (k .past))) (walk inner doc words count (k .past) >>= λ next. findFrom doc words count x later next)
+  k ← readKey doc words count o
+  choose (isEqual (compareTexts (k .bytes) x)) (answer (valueAt (k .past))) (walk inner doc words count (k .past) >>= λ next. findFrom doc words count x later next)
 
 unfoldable pub findIn : {S : Type 0} → List ℕ → List ℕ → ℕ → List ℕ → ℕ → ℕ → Reading S Found
 findIn doc words count x zero at = answer absent
@@ -256,6 +256,6 @@ findIn doc words count x (suc later) at = findFrom doc words count x later at
 
 unfoldable pub firstMember : {S : Type 0} → List ℕ → List ℕ → ℕ → ℕ → List ℕ → Reading S Found
 firstMember doc words count c x = do
-    opening doc c
-    b ← byteAt doc c c
-    objectBy doc c (λ n at. findIn doc words count x n at) (formOf b)
+  opening doc c
+  b ← byteAt doc c c
+  objectBy doc c (λ n at. findIn doc words count x n at) (formOf b)

@@ -21,25 +21,25 @@ use Rattle.fractured_json_rules.specs.Meaning.{Key, Keys, keyText, behin
 
 unfoldable pub header : {S : Type 0} → List ℕ → Reading S (Unit {0})
 header doc = do
-    need (leb leastFractured (length doc)) 31 (length doc)
-    need (leb (length doc) longest) 32 (length doc)
-    need (eqb (getD doc 0 0) 0x46) 33 0
-    need (eqb (getD doc 1 0) 0x4A) 33 0
-    need (eqb (getD doc 2 0) 0x01) 34 2
+  need (leb leastFractured (length doc)) 31 (length doc)
+  need (leb (length doc) longest) 32 (length doc)
+  need (eqb (getD doc 0 0) 0x46) 33 0
+  need (eqb (getD doc 1 0) 0x4A) 33 0
+  need (eqb (getD doc 2 0) 0x01) 34 2
 
 -- ---- 35: bytes of a value or key run out, at its first byte
 
 -- the byte at o, of what starts at p
 unfoldable pub byteAt : {S : Type 0} → List ℕ → ℕ → ℕ → Reading S ℕ
 byteAt doc o p = do
-    need (ltb o (length doc)) 35 p
-    answer (getD doc o 0)
+  need (ltb o (length doc)) 35 p
+  answer (getD doc o 0)
 
 -- the number in the w bytes behind the byte at o
 unfoldable pub payload : {S : Type 0} → List ℕ → ℕ → ℕ → Reading S ℕ
 payload doc o w = do
-    need (leb (o + 1 + w) (length doc)) 35 o
-    answer (number doc (o + 1) w)
+  need (leb (o + 1 + w) (length doc)) 35 o
+  answer (number doc (o + 1) w)
 
 unfoldable pub lengthAt : {S : Type 0} → List ℕ → ℕ → Len → Reading S ℕ
 lengthAt doc o (tiny n) = answer n
@@ -59,22 +59,22 @@ counted n e = record { is = n; past = e }
 unfoldable pub afterSecond : {S : Type 0} → List ℕ → ℕ → ℕ → ℕ → Bool → Reading S Counted
 afterSecond doc o b0 b1 true = answer (counted (b0 - 128 + 128 * b1) (o + 3))
 afterSecond doc o b0 b1 false = do
-    b2 ← byteAt doc (o + 3) o
-    need (leb b2 3) 37 (o + 3)
-    answer (counted (b0 - 128 + 128 * (b1 - 128) + 16_384 * b2) (o + 4))
+  b2 ← byteAt doc (o + 3) o
+  need (leb b2 3) 37 (o + 3)
+  answer (counted (b0 - 128 + 128 * (b1 - 128) + 16_384 * b2) (o + 4))
 
 unfoldable pub afterFirst : {S : Type 0} → List ℕ → ℕ → ℕ → Bool → Reading S Counted
 afterFirst doc o b0 true = answer (counted b0 (o + 2))
 afterFirst doc o b0 false = do
-    b1 ← byteAt doc (o + 2) o
-    afterSecond doc o b0 b1 (ltb b1 128)
+  b1 ← byteAt doc (o + 2) o
+  afterSecond doc o b0 b1 (ltb b1 128)
 
 -- the number of the key at o
 unfoldable pub indexAt : {S : Type 0} → List ℕ → ℕ → Index → Reading S Counted
 indexAt doc o (inByte n) = answer (counted n (o + 1))
 indexAt doc o spelled = do
-    b0 ← byteAt doc (o + 1) o
-    afterFirst doc o b0 (ltb b0 128)
+  b0 ← byteAt doc (o + 1) o
+  afterFirst doc o b0 (ltb b0 128)
 
 -- ---- the walk over a value: the answer is where it ends
 
@@ -82,14 +82,14 @@ indexAt doc o spelled = do
 unfoldable pub inTurn : {S : Type 0} → (ℕ → Reading S ℕ) → ℕ → ℕ → Reading S ℕ
 inTurn thing zero o = answer o
 inTurn thing (suc n) o = do
-    next ← thing o
-    inTurn thing n next
+  next ← thing o
+  inTurn thing n next
 
 -- a member: its key, then its value
 unfoldable pub member : {S : Type 0} → (ℕ → Reading S ℕ) → (ℕ → Reading S ℕ) → ℕ → Reading S ℕ
 member key value o = do
-    v ← key o
-    value v
+  v ← key o
+  value v
 
 -- the value at o, by its form; `array` and `object` read n things from an offset on
 unfoldable pub valueBy : {S : Type 0} → List ℕ → ℕ → (ℕ → ℕ → Reading S ℕ) → (ℕ → ℕ → Reading S ℕ) → Form → Reading S ℕ
@@ -97,32 +97,32 @@ valueBy doc o array object fNull = answer (o + 1)
 valueBy doc o array object (fBool b) = answer (o + 1)
 valueBy doc o array object (fTiny b) = answer (o + 1)
 valueBy doc o array object (fInt s w) = do
-    _ ← payload doc o (bytes w)
-    answer (o + 1 + bytes w)
+  _ ← payload doc o (bytes w)
+  answer (o + 1 + bytes w)
 valueBy doc o array object (fFloat f w) = do
-    bits ← payload doc o (bytes w)
-    need (finite f bits) 43 o
-    answer (o + 1 + bytes w)
+  bits ← payload doc o (bytes w)
+  need (finite f bits) 43 o
+  answer (o + 1 + bytes w)
 valueBy doc o array object (fString x) = do
-    n ← lengthAt doc o x
-    need (leb (behindLength o x + n) (length doc)) 35 o
-    answer (behindLength o x + n)
+  n ← lengthAt doc o x
+  need (leb (behindLength o x + n) (length doc)) 35 o
+  answer (behindLength o x + n)
 valueBy doc o array object (fObject x) = do
-    n ← lengthAt doc o x
-    object n (behindLength o x)
+  n ← lengthAt doc o x
+  object n (behindLength o x)
 valueBy doc o array object (fArray x) = do
-    n ← lengthAt doc o x
-    array n (behindLength o x)
+  n ← lengthAt doc o x
+  array n (behindLength o x)
 valueBy doc o array object fReserved = refuse 36 o
 
 -- with so many levels left for containers; `key` answers where the key's value starts
 unfoldable pub value : {S : Type 0} → (ℕ → Reading S ℕ) → ℕ → List ℕ → ℕ → Reading S ℕ
 value key zero doc o = do
-    b ← byteAt doc o o
-    valueBy doc o (λ n at. refuse 41 o) (λ n at. refuse 41 o) (formOf b)
+  b ← byteAt doc o o
+  valueBy doc o (λ n at. refuse 41 o) (λ n at. refuse 41 o) (formOf b)
 value key (suc levels) doc o = do
-    b ← byteAt doc o o
-    valueBy doc o (λ n at. inTurn (value key levels doc) n at) (λ n at. inTurn (member key (value key levels doc)) n at) (formOf b)
+  b ← byteAt doc o o
+  valueBy doc o (λ n at. inTurn (value key levels doc) n at) (λ n at. inTurn (member key (value key levels doc)) n at) (formOf b)
 
 -- ---- 38, 39 and 40: a key as the check reads it, with room for so many keys
 
@@ -134,43 +134,43 @@ met doc t (k ∷ ks) = choose (isEqual (compareTexts (keyText doc k) t)) true (m
 -- an immediate key at o, whose text is n .is bytes from n .past on; passed, it has its number before its value is read
 unfoldable pub newKey : ℕ → List ℕ → ℕ → Counted → Reading Keys ℕ
 newKey room doc o n = do
-    need (leb (n .past + n .is) (length doc)) 35 o
-    ks ← kept
-    need (not (met doc (part doc (n .past) (n .is)) ks)) 39 o
-    need (ltb (length ks) room) 40 o
-    keep (ks ++ (record { start = n .past; len = n .is } ∷ []))
-    answer (n .past + n .is)
+  need (leb (n .past + n .is) (length doc)) 35 o
+  ks ← kept
+  need (not (met doc (part doc (n .past) (n .is)) ks)) 39 o
+  need (ltb (length ks) room) 40 o
+  keep (ks ++ (record { start = n .past; len = n .is } ∷ []))
+  answer (n .past + n .is)
 
 unfoldable pub oldKey : ℕ → Counted → Reading Keys ℕ
 oldKey o n = do
-    ks ← kept
-    need (ltb (n .is) (length ks)) 38 o
-    answer (n .past)
+  ks ← kept
+  need (ltb (n .is) (length ks)) 38 o
+  answer (n .past)
 
 unfoldable pub checkKeyBy : ℕ → List ℕ → ℕ → KeyForm → Reading Keys ℕ
 checkKeyBy room doc o (immediate x) = do
-    n ← indexAt doc o x
-    newKey room doc o n
+  n ← indexAt doc o x
+  newKey room doc o n
 checkKeyBy room doc o (backReference x) = do
-    n ← indexAt doc o x
-    oldKey o n
+  n ← indexAt doc o x
+  oldKey o n
 checkKeyBy room doc o (globalIndex x) = do
-    _ ← indexAt doc o x
-    refuse 38 o
+  _ ← indexAt doc o x
+  refuse 38 o
 checkKeyBy room doc o kReserved = refuse 36 o
 
 unfoldable pub checkKey : ℕ → List ℕ → ℕ → Reading Keys ℕ
 checkKey room doc o = do
-    b ← byteAt doc o o
-    checkKeyBy room doc o (keyFormOf b)
+  b ← byteAt doc o o
+  checkKeyBy room doc o (keyFormOf b)
 
 -- ---- the whole check
 
 unfoldable pub check : ℕ → List ℕ → Reading Keys (Unit {0})
 check room doc = do
-    header doc
-    end ← value (checkKey room doc) deepest doc 3
-    need (eqb end (length doc)) 42 end
+  header doc
+  end ← value (checkKey room doc) deepest doc 3
+  need (eqb end (length doc)) 42 end
 
 -- the verdict, with the immediate keys passed before the end or the refusal
 abbrev pub verdict : ℕ → List ℕ → Outcome Keys (Unit {0})

@@ -62,32 +62,32 @@ module _ (f : Ieee.Format) (g : Float)
     (field : (b : ℕ) → b % Ieee.top f / Ieee.hid f ≡ exponent g b)
     (unit : 2 ^ Ieee.low f * 2 ^ g .low ≡ 2 ^ 1074)
   where
-  odd-valued : (s : Bool) (q k : ℕ) → Valued (Ieee.odd (Ieee.prec f) s q k (Ieee.low f)) s (q * 2 ^ k * 2 ^ g .low)
-  odd-valued s q k =
-    let x = Ieee.odd (Ieee.prec f) s q k (Ieee.low f) in
-    valued x s (q * 2 ^ k * 2 ^ g .low) (odd-sign (Ieee.prec f) s q k (Ieee.low f))
-    (subst (λ (y : ℕ). Equals x (q * 2 ^ k * 2 ^ g .low) y) unit (stretched x (q * 2 ^ k) (2 ^ Ieee.low f) (2 ^ g .low) (odd-val (Ieee.prec f) s q k (Ieee.low f))))
+    odd-valued : (s : Bool) (q k : ℕ) → Valued (Ieee.odd (Ieee.prec f) s q k (Ieee.low f)) s (q * 2 ^ k * 2 ^ g .low)
+    odd-valued s q k =
+        let x = Ieee.odd (Ieee.prec f) s q k (Ieee.low f) in
+        valued x s (q * 2 ^ k * 2 ^ g .low) (odd-sign (Ieee.prec f) s q k (Ieee.low f))
+        (subst (λ (y : ℕ). Equals x (q * 2 ^ k * 2 ^ g .low) y) unit (stretched x (q * 2 ^ k) (2 ^ Ieee.low f) (2 ^ g .low) (odd-val (Ieee.prec f) s q k (Ieee.low f))))
 
-  fields : (s : Bool) (x t : ℕ) → T (not (eqb x (2 ^ g .w - 1))) → Valued (Ieee.ofFields f s x t) s (significand g x t * 2 ^ g .low)
-  unfolding Ieee.ofFields
-  fields s zero t h =
-    subst (λ (y : ℕ). Valued (Ieee.odd (Ieee.prec f) s t 0 (Ieee.low f)) s (y * 2 ^ g .low)) (mul-one t) (odd-valued s t 0)
-  fields s (suc x) t h =
-    rw (ones, cond-no (eqb (suc x) (2 ^ g .w - 1)) (cond (eqb t 0) (Ieee.inf s) Ieee.nan) (Ieee.odd (Ieee.prec f) s (Ieee.hid f + t) x (Ieee.low f)) h, leading)
-    (odd-valued s (2 ^ g .p + t) x)
+    fields : (s : Bool) (x t : ℕ) → T (not (eqb x (2 ^ g .w - 1))) → Valued (Ieee.ofFields f s x t) s (significand g x t * 2 ^ g .low)
+    unfolding Ieee.ofFields
+    fields s zero t h =
+        subst (λ (y : ℕ). Valued (Ieee.odd (Ieee.prec f) s t 0 (Ieee.low f)) s (y * 2 ^ g .low)) (mul-one t) (odd-valued s t 0)
+    fields s (suc x) t h =
+        rw (ones, cond-no (eqb (suc x) (2 ^ g .w - 1)) (cond (eqb t 0) (Ieee.inf s) Ieee.nan) (Ieee.odd (Ieee.prec f) s (Ieee.hid f + t) x (Ieee.low f)) h, leading)
+        (odd-valued s (2 ^ g .p + t) x)
 
-  agrees : (b : ℕ) → T (finite g b) → Valued (Ieee.ofBits f b) (negative g b) (magnitude g b)
-  unfolding Ieee.ofBits finite magnitude
-  agrees b h = rw (field b, top, leading) (fields (negative g b) (exponent g b) (fraction g b) h)
+    agrees : (b : ℕ) → T (finite g b) → Valued (Ieee.ofBits f b) (negative g b) (magnitude g b)
+    unfolding Ieee.ofBits finite magnitude
+    agrees b h = rw (field b, top, leading) (fields (negative g b) (exponent g b) (fraction g b) h)
 
-  no-fields : (s : Bool) (x t : ℕ) → 0 < 2 ^ g .w - 1 → T (not (not (eqb x (2 ^ g .w - 1)))) → Unvalued (Ieee.ofFields f s x t)
-  unfolding Ieee.ofFields
-  no-fields s zero t o h = let e : 0 ≡ 2 ^ g .w - 1 = eqb→eq _ _ (not-not (eqb 0 (2 ^ g .w - 1)) h) in absurd (omega arith)
-  no-fields s (suc x) t o h = rw (ones, cond-yes (eqb (suc x) (2 ^ g .w - 1)) (cond (eqb t 0) (Ieee.inf s) Ieee.nan) (Ieee.odd (Ieee.prec f) s (Ieee.hid f + t) x (Ieee.low f)) (not-not (eqb (suc x) (2 ^ g .w - 1)) h)) (unvalued s (eqb t 0))
+    no-fields : (s : Bool) (x t : ℕ) → 0 < 2 ^ g .w - 1 → T (not (not (eqb x (2 ^ g .w - 1)))) → Unvalued (Ieee.ofFields f s x t)
+    unfolding Ieee.ofFields
+    no-fields s zero t o h = let e : 0 ≡ 2 ^ g .w - 1 = eqb→eq _ _ (not-not (eqb 0 (2 ^ g .w - 1)) h) in absurd (omega arith)
+    no-fields s (suc x) t o h = rw (ones, cond-yes (eqb (suc x) (2 ^ g .w - 1)) (cond (eqb t 0) (Ieee.inf s) Ieee.nan) (Ieee.odd (Ieee.prec f) s (Ieee.hid f + t) x (Ieee.low f)) (not-not (eqb (suc x) (2 ^ g .w - 1)) h)) (unvalued s (eqb t 0))
 
-  differs : 0 < 2 ^ g .w - 1 → (b : ℕ) → T (not (finite g b)) → Unvalued (Ieee.ofBits f b)
-  unfolding Ieee.ofBits finite
-  differs o b h = rw (field b, top, leading) (no-fields (negative g b) (exponent g b) (fraction g b) o h)
+    differs : 0 < 2 ^ g .w - 1 → (b : ℕ) → T (not (finite g b)) → Unvalued (Ieee.ofBits f b)
+    unfolding Ieee.ofBits finite
+    differs o b h = rw (field b, top, leading) (no-fields (negative g b) (exponent g b) (fraction g b) o h)
 
 -- a finite binary64 has, as our number, the sign and the magnitude that IEEE 754 gives it; any other is none
 pub agrees64 : (b : ℕ) → T (finite binary64 b) → Valued (Ieee.ofBits Ieee.binary64 b) (negative binary64 b) (magnitude binary64 b)

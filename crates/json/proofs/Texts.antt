@@ -35,18 +35,21 @@ by-numbers P x y r below equal above = go (ltb x y) (ltb y x) (ltb→lt x y) (nl
 
 pub numbers-below : (x y : ℕ) → (compareNumbers x y ≡ Below) ↔ (x < y)
 numbers-below x y = (
-    by-numbers (λ o. o ≡ Below → x < y) x y Equal (λ h e. h) (λ h e. absurd (below≢equal (sym e))) (λ h e. absurd (below≢above (sym e))),
-    λ l. by-numbers (λ o. o ≡ Below) x y Equal (λ h. refl) (λ h. absurd (omega arith)) (λ h. absurd (omega arith)))
+  by-numbers (λ o. o ≡ Below → x < y) x y Equal (λ h e. h) (λ h e. absurd (below≢equal (sym e))) (λ h e. absurd (below≢above (sym e))),
+  λ l. by-numbers (λ o. o ≡ Below) x y Equal (λ h. refl) (λ h. absurd (omega arith)) (λ h. absurd (omega arith)),
+)
 
 pub numbers-equal : (x y : ℕ) → (compareNumbers x y ≡ Equal) ↔ (x ≡ y)
 numbers-equal x y = (
-    by-numbers (λ o. o ≡ Equal → x ≡ y) x y Equal (λ h e. absurd (below≢equal e)) (λ h e. h) (λ h e. absurd (equal≢above (sym e))),
-    λ q. by-numbers (λ o. o ≡ Equal) x y Equal (λ h. absurd (omega arith)) (λ h. refl) (λ h. absurd (omega arith)))
+  by-numbers (λ o. o ≡ Equal → x ≡ y) x y Equal (λ h e. absurd (below≢equal e)) (λ h e. h) (λ h e. absurd (equal≢above (sym e))),
+  λ q. by-numbers (λ o. o ≡ Equal) x y Equal (λ h. absurd (omega arith)) (λ h. refl) (λ h. absurd (omega arith)),
+)
 
 pub numbers-above : (x y : ℕ) → (compareNumbers x y ≡ Above) ↔ (y < x)
 numbers-above x y = (
-    by-numbers (λ o. o ≡ Above → y < x) x y Equal (λ h e. absurd (below≢above e)) (λ h e. absurd (equal≢above e)) (λ h e. h),
-    λ g. by-numbers (λ o. o ≡ Above) x y Equal (λ h. absurd (omega arith)) (λ h. absurd (omega arith)) (λ h. refl))
+  by-numbers (λ o. o ≡ Above → y < x) x y Equal (λ h e. absurd (below≢above e)) (λ h e. absurd (equal≢above e)) (λ h e. h),
+  λ g. by-numbers (λ o. o ≡ Above) x y Equal (λ h. absurd (omega arith)) (λ h. absurd (omega arith)) (λ h. refl),
+)
 
 -- ---- texts
 
@@ -118,17 +121,18 @@ text-cotrans (x ∷ xs) (y ∷ ys) [] e = inr refl
 text-cotrans (x ∷ xs) (y ∷ ys) (z ∷ zs) e =
     by-numbers (λ o. o ≡ Below → Goal) x y (compareTexts xs ys)
     (λ h e. by-numbers (λ o. (o ≡ Below) ⊎ (byNumbers z y (compareTexts zs ys) ≡ Below)) x z (compareTexts xs zs)
-      (λ k. inl refl)
-      (λ k. inr (by-numbers (λ o. o ≡ Below) z y (compareTexts zs ys) (λ g. refl) (λ g. absurd (omega arith)) (λ g. absurd (omega arith))))
-      (λ k. inr (by-numbers (λ o. o ≡ Below) z y (compareTexts zs ys) (λ g. refl) (λ g. absurd (omega arith)) (λ g. absurd (omega arith)))))
+    (λ k. inl refl)
+    (λ k. inr (by-numbers (λ o. o ≡ Below) z y (compareTexts zs ys) (λ g. refl) (λ g. absurd (omega arith)) (λ g. absurd (omega arith))))
+    (λ k. inr (by-numbers (λ o. o ≡ Below) z y (compareTexts zs ys) (λ g. refl) (λ g. absurd (omega arith)) (λ g. absurd (omega arith)))))
     (λ h e. by-numbers (λ o. (o ≡ Below) ⊎ (byNumbers z y (compareTexts zs ys) ≡ Below)) x z (compareTexts xs zs)
-      (λ k. inl refl)
-      (λ k. tail (omega arith) (text-cotrans xs ys zs e))
-      (λ k. inr (by-numbers (λ o. o ≡ Below) z y (compareTexts zs ys) (λ g. refl) (λ g. absurd (omega arith)) (λ g. absurd (omega arith)))))
+    (λ k. inl refl)
+    (λ k. tail (omega arith) (text-cotrans xs ys zs e))
+    (λ k. inr (by-numbers (λ o. o ≡ Below) z y (compareTexts zs ys) (λ g. refl) (λ g. absurd (omega arith)) (λ g. absurd (omega arith)))))
     (λ h e. absurd (below≢above (sym e))) e
   where
     Goal : Type 0
     Goal = (byNumbers x z (compareTexts xs zs) ≡ Below) ⊎ (byNumbers z y (compareTexts zs ys) ≡ Below)
+
     tail : z ≡ y → (compareTexts xs zs ≡ Below) ⊎ (compareTexts zs ys ≡ Below) → (compareTexts xs zs ≡ Below) ⊎ (byNumbers z y (compareTexts zs ys) ≡ Below)
     tail q (inl l) = inl l
     tail q (inr r) = inr (by-numbers (λ o. o ≡ Below) z y (compareTexts zs ys) (λ g. refl) (λ g. r) (λ g. absurd (omega arith)))
