@@ -1,0 +1,4 @@
+pub mod Sound
+pub mod Complete
+pub mod Trees
+pub mod Nodes

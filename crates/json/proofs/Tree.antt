@@ -20,3 +20,8 @@ pub element-one : (ts : Trees) (i : ℕ) {u v : Tree} → ElementIs ts i u → E
 element-one none i p q = absurd p
 element-one (more t ts) zero p q = p ∙ sym q
 element-one (more t ts) (suc i) p q = element-one ts i p q
+
+pub member-at : (ms : Members) (j : ℕ) → j < sizem ms → (k : List ℕ) × (v : Tree) × MemberIs ms j k v
+member-at end j h = absurd (omega arith)
+member-at (member k t ms) zero h = (k, t, (refl, refl))
+member-at (member k t ms) (suc j) h = member-at ms j (omega arith)
