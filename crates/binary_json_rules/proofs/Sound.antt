@@ -62,25 +62,25 @@ module _ {S B : Type 0} (doc : List ℕ) (f : Unit {0} → Reading S B) (s : S) 
   slot-sound : (v n p : ℕ) {b : B} {z : S} → (slotNamed doc v n p >>= f) s ≡ done b z → (k : ℕ) × SlotIs doc v k × (f tt s ≡ done b z)
   unfolding slotNamed slot
   slot-sound v n p h =
-    let s1 = passed _ _ _ _ _ (sym (assoc _ _ f s) ∙ h) in
-    let s2 = passed _ _ _ _ _ (sym (assoc _ _ f s) ∙ s1 .rest) in
-    let s3 = passed _ _ _ f s (s2 .rest) in
-    let h1 : index doc + 4 + 4 * 0 ≤ v = leb→le _ _ (s1 .test) in
-    let h2 : (v - (index doc + 4 + 4 * 0)) % 4 ≡ 0 = eqb→eq _ _ (s2 .test) in
-    let h3 : v < index doc + 4 + 4 * count doc = ltb→lt _ _ (s3 .test) in
-    ((v - (index doc + 4)) / 4, record { counted = omega arith; place = omega arith }, s3 .rest)
+      let s1 = passed _ _ _ _ _ (sym (assoc _ _ f s) ∙ h) in
+      let s2 = passed _ _ _ _ _ (sym (assoc _ _ f s) ∙ s1 .rest) in
+      let s3 = passed _ _ _ f s (s2 .rest) in
+      let h1 : index doc + 4 + 4 * 0 ≤ v = leb→le _ _ (s1 .test) in
+      let h2 : (v - (index doc + 4 + 4 * 0)) % 4 ≡ 0 = eqb→eq _ _ (s2 .test) in
+      let h3 : v < index doc + 4 + 4 * count doc = ltb→lt _ _ (s3 .test) in
+      ((v - (index doc + 4)) / 4, record { counted = omega arith; place = omega arith }, s3 .rest)
 
   number-sound : (v n p : ℕ) {b : B} {z : S} → (numberNamed doc v n p >>= f) s ≡ done b z
       → (k : ℕ) × NumberIs doc v k × T (finite binary64 (number doc v 8)) × (f tt s ≡ done b z)
   unfolding numberNamed
   number-sound v n p h =
-    let s1 = passed _ _ _ _ _ (sym (assoc _ _ f s) ∙ h) in
-    let s2 = passed _ _ _ _ _ (sym (assoc _ _ f s) ∙ s1 .rest) in
-    let s3 = passed _ _ _ _ _ (sym (assoc _ _ f s) ∙ s2 .rest) in
-    let s4 = passed _ _ _ f s (s3 .rest) in
-    let h1 : numbers doc ≤ v = leb→le _ _ (s1 .test) in
-    let h2 : (v - numbers doc) % 8 ≡ 0 = eqb→eq _ _ (s2 .test) in
-    ((v - numbers doc) / 8, record { place = omega arith; inside = leb→le _ _ (s3 .test) }, s4 .test, s4 .rest)
+      let s1 = passed _ _ _ _ _ (sym (assoc _ _ f s) ∙ h) in
+      let s2 = passed _ _ _ _ _ (sym (assoc _ _ f s) ∙ s1 .rest) in
+      let s3 = passed _ _ _ _ _ (sym (assoc _ _ f s) ∙ s2 .rest) in
+      let s4 = passed _ _ _ f s (s3 .rest) in
+      let h1 : numbers doc ≤ v = leb→le _ _ (s1 .test) in
+      let h2 : (v - numbers doc) % 8 ≡ 0 = eqb→eq _ _ (s2 .test) in
+      ((v - numbers doc) / 8, record { place = omega arith; inside = leb→le _ _ (s3 .test) }, s4 .test, s4 .rest)
 
 -- ---- Entries, KeyEntries and containers; `child` is any reader that finds what it reads
 
@@ -99,17 +99,17 @@ module _ {S : Type 0} (doc : List ℕ) (child : ℕ → Reading S ℕ) (l : ℕ)
   entry-by a d s tTrue k h = record { tree = bool true; is = k; fills = sym (done-answer h); shallow = omega arith }
   entry-by a d s tNull k h = record { tree = null; is = k; fills = sym (done-answer h); shallow = omega arith }
   entry-by a d s tString k h =
-    let (j, is, r) = slot-sound doc _ s _ _ _ h in
-    record { tree = str (content doc j); is = (j, k, is, refl); fills = sym (done-answer r); shallow = omega arith }
+      let (j, is, r) = slot-sound doc _ s _ _ _ h in
+      record { tree = str (content doc j); is = (j, k, is, refl); fills = sym (done-answer r); shallow = omega arith }
   entry-by a d s tNumber k h =
-    let (j, is, fin, r) = number-sound doc _ s _ _ _ h in
-    let bits = number doc (high doc a) 8 in
-    record { tree = num (negative binary64 bits) (magnitude binary64 bits); is = (j, k, is, fin, refl); fills = sym (done-answer r); shallow = omega arith }
+      let (j, is, fin, r) = number-sound doc _ s _ _ _ h in
+      let bits = number doc (high doc a) 8 in
+      record { tree = num (negative binary64 bits) (magnitude binary64 bits); is = (j, k, is, fin, refl); fills = sym (done-answer r); shallow = omega arith }
   entry-by a d s tContainer k h =
-    let p = passed _ _ _ _ s h in
-    let b = ih d s _ _ (p .rest) in
-    let r = as-entry doc (b .tree) a d _ k (eqb→eq _ _ (p .test)) (b .is) in
-    record { tree = b .tree; is = r .0; fills = r .1; shallow = b .shallow }
+      let p = passed _ _ _ _ s h in
+      let b = ih d s _ _ (p .rest) in
+      let r = as-entry doc (b .tree) a d _ k (eqb→eq _ _ (p .test)) (b .is) in
+      record { tree = b .tree; is = r .0; fills = r .1; shallow = b .shallow }
   entry-by a d s tOther k h = absurd (halt≢done h)
 
   entry-sound : (a d : ℕ) (s : S) {e : ℕ} {z : S} → entry doc child a d s ≡ done e z → FoundEntry doc l a d e
@@ -120,42 +120,43 @@ module _ {S : Type 0} (doc : List ℕ) (child : ℕ → Reading S ℕ) (l : ℕ)
   unfolding entries
   entries-sound zero a d s h = record { trees = none; many = refl; are = tt; fills = sym (done-answer h); shallow = omega arith }
   entries-sound (suc n) a d s h =
-    let p = step _ _ s h in
-    let t = entry-sound a d s (p .first) in
-    let ts = entries-sound n (a + 4) (p .got) (p .mid) (p .rest) in
-    record { trees = more (t .tree) (ts .trees); many = ap suc (ts .many); are = (t .is, ts .are); fills = (p .got, t .fills, ts .fills); shallow = max-le (t .shallow) (ts .shallow) }
+      let p = step _ _ s h in
+      let t = entry-sound a d s (p .first) in
+      let ts = entries-sound n (a + 4) (p .got) (p .mid) (p .rest) in
+      record { trees = more (t .tree) (ts .trees); many = ap suc (ts .many); are = (t .is, ts .are); fills = (p .got, t .fills, ts .fills); shallow = max-le (t .shallow) (ts .shallow) }
 
   members-sound : (n p q a d : ℕ) (s s′ : S) {u : Unit {0}} {e : ℕ} {y z : S} → keyEntries doc n p q s ≡ done u y → entries doc child n a d s′ ≡ done e z → FoundMembers doc l n p q a d e
   unfolding entries keyEntries
   members-sound zero p q a d s s′ g h = record { members = end; many = refl; are = tt; fills = sym (done-answer h); shallow = omega arith }
   members-sound (suc n) p q a d s s′ g h =
-    let (k, is, g2) = slot-sound doc _ s _ _ _ g in
-    let g3 = passed _ _ _ _ s g2 in
-    let p1 = step _ _ s′ h in
-    let t = entry-sound a d s′ (p1 .first) in
-    let ms = members-sound n (word doc q) (q + 4) (a + 4) (p1 .got) s (p1 .mid) (g3 .rest) (p1 .rest) in
-    record {
-      members = member (content doc k) (t .tree) (ms .members);
-      many = ap suc (ms .many);
-      are = (k, is, refl, ltb→lt _ _ (g3 .test), t .is, ms .are);
-      fills = (p1 .got, t .fills, ms .fills);
-      shallow = max-le (t .shallow) (ms .shallow) }
+      let (k, is, g2) = slot-sound doc _ s _ _ _ g in
+      let g3 = passed _ _ _ _ s g2 in
+      let p1 = step _ _ s′ h in
+      let t = entry-sound a d s′ (p1 .first) in
+      let ms = members-sound n (word doc q) (q + 4) (a + 4) (p1 .got) s (p1 .mid) (g3 .rest) (p1 .rest) in
+      record {
+        members = member (content doc k) (t .tree) (ms .members);
+        many = ap suc (ms .many);
+        are = (k, is, refl, ltb→lt _ _ (g3 .test), t .is, ms .are);
+        fills = (p1 .got, t .fills, ms .fills);
+        shallow = max-le (t .shallow) (ms .shallow);
+      }
 
   body-sound : (o n : ℕ) (s : S) {e : ℕ} {z : S} (k : Kind) → kindOf (low doc o) ≡ k → high doc o ≡ n → containerBy doc child o n k s ≡ done e z → FoundBody doc (suc l) o e
   unfolding containerBy
   body-sound o n s {e} kArray hk hn h =
-    let p = passed _ _ _ _ s h in
-    let fits : o + 4 + 4 * n ≤ index doc = leb→le _ _ (p .test) in
-    let ts = entries-sound n _ _ s (p .rest) in
-    let shallow : suc (depths (ts .trees)) ≤ suc l = omega (arith, ts .shallow) in
-    record { tree = arr (ts .trees); is = rw (ts .many) ((record { kind-is = hk; size-is = hn; inside = fits }, ts .are), ts .fills); shallow = shallow }
+      let p = passed _ _ _ _ s h in
+      let fits : o + 4 + 4 * n ≤ index doc = leb→le _ _ (p .test) in
+      let ts = entries-sound n _ _ s (p .rest) in
+      let shallow : suc (depths (ts .trees)) ≤ suc l = omega (arith, ts .shallow) in
+      record { tree = arr (ts .trees); is = rw (ts .many) ((record { kind-is = hk; size-is = hn; inside = fits }, ts .are), ts .fills); shallow = shallow }
   body-sound o n s kObject hk hn h =
-    let p = passed _ _ _ _ s h in
-    let fits : o + 4 + 4 * (2 * n) ≤ index doc = leb→le _ _ (p .test) in
-    let p2 = step _ _ s (p .rest) in
-    let ms = members-sound n 0 _ _ _ s (p2 .mid) (p2 .first) (p2 .rest) in
-    let shallow : suc (depthm (ms .members)) ≤ suc l = omega (arith, ms .shallow) in
-    record { tree = obj (ms .members); is = rw (ms .many) ((record { kind-is = hk; size-is = hn; inside = fits }, ms .are), ms .fills); shallow = shallow }
+      let p = passed _ _ _ _ s h in
+      let fits : o + 4 + 4 * (2 * n) ≤ index doc = leb→le _ _ (p .test) in
+      let p2 = step _ _ s (p .rest) in
+      let ms = members-sound n 0 _ _ _ s (p2 .mid) (p2 .first) (p2 .rest) in
+      let shallow : suc (depthm (ms .members)) ≤ suc l = omega (arith, ms .shallow) in
+      record { tree = obj (ms .members); is = rw (ms .many) ((record { kind-is = hk; size-is = hn; inside = fits }, ms .are), ms .fills); shallow = shallow }
   body-sound o n s kScalar hk hn h = absurd (halt≢done h)
   body-sound o n s kOther hk hn h = absurd (halt≢done h)
 
@@ -205,28 +206,28 @@ module _ {S : Type 0} (doc : List ℕ) where
   unfolding container
   container-sound zero o s e z h = absurd (halt≢done h)
   container-sound (suc l) o s e z h =
-    let p = passed _ _ _ _ s h in
-    body-sound doc (container l doc) l (container-sound l) o (high doc o) s (kindOf (low doc o)) refl refl (p .rest)
+      let p = passed _ _ _ _ s h in
+      body-sound doc (container l doc) l (container-sound l) o (high doc o) s (kindOf (low doc o)) refl refl (p .rest)
 
   -- ---- the root
 
   root-whole : (s : S) {e : ℕ} {z : S} → container deepest doc 4 s ≡ done e z → FoundRoot doc e
   root-whole s {e} h =
-    let b = container-sound deepest 4 s _ _ h in
-    let r = root-body doc (b .tree) e (b .is) in
-    record { tree = b .tree; is = r .0; fills = r .1; shallow = b .shallow }
+      let b = container-sound deepest 4 s _ _ h in
+      let r = root-body doc (b .tree) e (b .is) in
+      record { tree = b .tree; is = r .0; fills = r .1; shallow = b .shallow }
 
   root-sound : (s : S) {e : ℕ} {z : S} (k : Kind) → kindOf (low doc 4) ≡ k → rootBy doc k s ≡ done e z → FoundRoot doc e
   unfolding rootBy scalar
   root-sound s kArray k h = root-whole s h
   root-sound s kObject k h = root-whole s h
   root-sound s {e} kScalar k h =
-    let p1 = passed _ _ _ _ s h in
-    let p2 = passed _ _ _ _ s (p1 .rest) in
-    let m : Meta doc 4 kScalar 1 1 = record { kind-is = k; size-is = eqb→eq _ _ (p1 .test); inside = leb→le _ _ (p2 .test) } in
-    let t = entry-sound doc (λ d. refuse 9 8) 0 (λ o s e z x. absurd (halt≢done x)) 8 12 s (p2 .rest) in
-    let r = root-scalar doc (t .tree) e (t .shallow) m (t .is) (t .fills) in
-    record { tree = t .tree; is = r .0; fills = r .1; shallow = omega (arith, t .shallow) }
+      let p1 = passed _ _ _ _ s h in
+      let p2 = passed _ _ _ _ s (p1 .rest) in
+      let m : Meta doc 4 kScalar 1 1 = record { kind-is = k; size-is = eqb→eq _ _ (p1 .test); inside = leb→le _ _ (p2 .test) } in
+      let t = entry-sound doc (λ d. refuse 9 8) 0 (λ o s e z x. absurd (halt≢done x)) 8 12 s (p2 .rest) in
+      let r = root-scalar doc (t .tree) e (t .shallow) m (t .is) (t .fills) in
+      record { tree = t .tree; is = r .0; fills = r .1; shallow = omega (arith, t .shallow) }
   root-sound s kOther k h = root-whole s h
 
   -- ---- slots
@@ -235,13 +236,13 @@ module _ {S : Type 0} (doc : List ℕ) where
   unfolding slots
   slots-sound zero k s h j a b = absurd (omega arith)
   slots-sound (suc n) k s h j a b =
-    let s1 = passed _ _ _ _ s h in
-    let s2 = passed _ _ _ _ s (s1 .rest) in
-    let s3 = passed _ _ _ _ s (s2 .rest) in
-    let s4 = passed _ _ _ _ s (s3 .rest) in
-    let s5 = passed _ _ _ _ s (s4 .rest) in
-    let good : SlotGood doc k = record { clear = eqb→eq _ _ (s1 .test); forward = ltb→lt _ _ (s2 .test); inside = leb→le _ _ (s3 .test); closed = eqb→eq _ _ (s4 .test) } in
-    cases (ℕ-discrete k j) (record { good = good; above = ascends-sound doc k (s5 .test) }) (slots-sound n (suc k) s (s5 .rest) j)
+      let s1 = passed _ _ _ _ s h in
+      let s2 = passed _ _ _ _ s (s1 .rest) in
+      let s3 = passed _ _ _ _ s (s2 .rest) in
+      let s4 = passed _ _ _ _ s (s3 .rest) in
+      let s5 = passed _ _ _ _ s (s4 .rest) in
+      let good : SlotGood doc k = record { clear = eqb→eq _ _ (s1 .test); forward = ltb→lt _ _ (s2 .test); inside = leb→le _ _ (s3 .test); closed = eqb→eq _ _ (s4 .test) } in
+      cases (ℕ-discrete k j) (record { good = good; above = ascends-sound doc k (s5 .test) }) (slots-sound n (suc k) s (s5 .rest) j)
     where
       cases : Dec (k ≡ j) → Slot doc k → (suc k ≤ j → j < suc k + n → Slot doc j) → Slot doc j
       cases (yes e) here later = rw (← e) here
@@ -264,18 +265,21 @@ sound doc s h =
     let p10 = step _ _ _ (p9 .rest) in
     let r = root-sound doc (p8 .mid) (kindOf (low doc 4)) refl (p10 .first) in
     let whole : p10 .got ≡ index doc = eqb→eq _ _ (need-done _ _ _ _ (p10 .rest)) in
-    let each = slots-sound doc (count doc) 0 s (p8 .first) in
-    (r .tree, record {
-      long = leb→le _ _ (p1 .test);
-      short = leb→le _ _ (p2 .test);
-      version = eqb→eq _ _ (p3 .test);
-      index-least = leb→le _ _ (p4 .test);
-      index-step = eqb→eq _ _ (p5 .test);
-      index-inside = leb→le _ _ (p6 .test);
-      slots-inside = leb→le _ _ (p7 .test);
-      slots-good = λ k b. each k (omega arith) (omega arith) .good;
-      ascending = λ k b. each (suc k) (omega arith) (omega arith) .above;
-      numbers-step = eqb→eq _ _ (p9 .test);
-      root = r .is;
-      filled = subst (λ (x : ℕ). RootFills doc (r .tree) x) whole (r .fills);
-      nested = r .shallow })
+    let each = slots-sound doc (count doc) 0 s (p8 .first) in (
+      r .tree,
+      record {
+        long = leb→le _ _ (p1 .test);
+        short = leb→le _ _ (p2 .test);
+        version = eqb→eq _ _ (p3 .test);
+        index-least = leb→le _ _ (p4 .test);
+        index-step = eqb→eq _ _ (p5 .test);
+        index-inside = leb→le _ _ (p6 .test);
+        slots-inside = leb→le _ _ (p7 .test);
+        slots-good = λ k b. each k (omega arith) (omega arith) .good;
+        ascending = λ k b. each (suc k) (omega arith) (omega arith) .above;
+        numbers-step = eqb→eq _ _ (p9 .test);
+        root = r .is;
+        filled = subst (λ (x : ℕ). RootFills doc (r .tree) x) whole (r .fills);
+        nested = r .shallow;
+      },
+    )

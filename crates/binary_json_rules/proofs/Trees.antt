@@ -27,6 +27,7 @@ module _ (doc : List ℕ) where
 
   mutual
     unfolding entryTree entryTreeBy entryTrees memberTrees containerTree containerTreeBy
+
     pub entry-tree : (t : Tree) (l a : ℕ) → EntryIs doc t a → depth t ≤ l → entryTree doc (containerTree l doc) a ≡ t
     entry-tree null l a h z = plain-tree null _ a (omega arith) h
     entry-tree (bool b) l a h z = plain-tree (bool b) _ a (omega arith) h
@@ -34,12 +35,12 @@ module _ (doc : List ℕ) where
     entry-tree (str s) l a h z = plain-tree (str s) _ a (omega arith) h
     entry-tree (arr ts) zero a h z = absurd (omega arith)
     entry-tree (arr ts) (suc l) a h z =
-      let m = h .1 .0 in
-      rw (h .0, m .kind-is, m .size-is) (ap arr (entries-tree ts l _ (h .1 .1) (omega arith)))
+        let m = h .1 .0 in
+        rw (h .0, m .kind-is, m .size-is) (ap arr (entries-tree ts l _ (h .1 .1) (omega arith)))
     entry-tree (obj ms) zero a h z = absurd (omega arith)
     entry-tree (obj ms) (suc l) a h z =
-      let m = h .1 .0 in
-      rw (h .0, m .kind-is, m .size-is) (ap obj (members-tree ms l 0 _ _ (h .1 .1) (omega arith)))
+        let m = h .1 .0 in
+        rw (h .0, m .kind-is, m .size-is) (ap obj (members-tree ms l 0 _ _ (h .1 .1) (omega arith)))
 
     entries-tree : (ts : Trees) (l a : ℕ) → EntriesAre doc ts a → depths ts ≤ l → entryTrees doc (containerTree l doc) (size ts) a ≡ ts
     entries-tree none l a h z = refl
@@ -48,7 +49,7 @@ module _ (doc : List ℕ) where
     members-tree : (ms : Members) (l p q a : ℕ) → MembersAre doc ms p q a → depthm ms ≤ l → memberTrees doc (containerTree l doc) (sizem ms) q a ≡ ms
     members-tree end l p q a h z = refl
     members-tree (member x t ms) l p q a h z =
-      rw (slot-at _ _ (h .1), sym (h .2), entry-tree t l a (h .4) (omega arith), members-tree ms l (word doc q) (q + 4) (a + 4) (h .5) (omega arith))
+        rw (slot-at _ _ (h .1), sym (h .2), entry-tree t l a (h .4) (omega arith), members-tree ms l (word doc q) (q + 4) (a + 4) (h .5) (omega arith))
 
   scalar-tree : (t : Tree) (l c : ℕ) → depth t ≤ 0 → ScalarIs doc t c → containerTree (suc l) doc c ≡ t
   unfolding containerTree containerTreeBy

@@ -17,6 +17,11 @@ pub data Halved : Type 0 where
   missed : (at turns : ℕ) → Halved
   broken : Halved
 
+abbrev pub turnsOf : Halved → ℕ
+turnsOf (found at turns) = turns
+turnsOf (missed at turns) = turns
+turnsOf broken = 0
+
 abbrev pub middle : ℕ → ℕ → ℕ
 middle low high = low + (high - low) / 2
 

@@ -8,9 +8,9 @@ use Rattle.json.specs.Reading.{Outcome, halt, done, Reading, Asked, answer, ref
 use Rattle.json.specs.Bytes.{part}
 use Rattle.json.specs.Span.{Span}
 use Rattle.json.specs.Texts.{compareNumbers, compareTexts, isEqual}
-use Rattle.binary_json_rules.specs.Areas.{word, count, slot}
+use Rattle.binary_json_rules.specs.Areas.{word, count, slot, content}
 use Rattle.binary_json_rules.specs.Questions.{object, keyEntryOf, entryOf, slotRead, textNamed}
-use Rattle.binary_json_rules.specs.Halving.{Item, compares, unreadable, Halved, found, missed, broken, halve}
+use Rattle.binary_json_rules.specs.Halving.{Item, compares, unreadable, Halved, found, missed, broken, turnsOf, halve}
 
 -- the Entry of the member with the key, or absent
 pub data Found : Type 0 where
@@ -27,9 +27,12 @@ stringItem doc x (done s u) = compares (compareTexts (part doc (s .place) (s .le
 abbrev pub strings : List ℕ → List ℕ → Halved
 strings doc x = halve (λ k. stringItem doc x (ask (slotRead doc k 0))) (count doc)
 
--- the n KeyEntries of the object at c against the offset v, as numbers
+-- KeyEntry j of the object at c against the offset v, as numbers; the n KeyEntries
+abbrev pub keyItem : List ℕ → ℕ → ℕ → ℕ → Item
+keyItem doc c v j = compares (compareNumbers (word doc (keyEntryOf c j)) v)
+
 abbrev pub keys : List ℕ → ℕ → ℕ → ℕ → Halved
-keys doc c n v = halve (λ j. compares (compareNumbers (word doc (keyEntryOf c j)) v)) n
+keys doc c n v = halve (keyItem doc c v) n
 
 pub record Counted : Type 0 where
   pub answer : Found
@@ -62,6 +65,21 @@ firstCount (done a u) = a .first
 abbrev pub secondCount : Asked Counted → ℕ
 secondCount (halt number place u) = 0
 secondCount (done a u) = a .second
+
+-- ---- what both counts are in a document whose slots can all be read
+
+-- the halving of the C contents for the key x
+abbrev pub contentItem : List ℕ → List ℕ → ℕ → Item
+contentItem doc x k = compares (compareTexts (content doc k) x)
+
+abbrev pub textHalving : List ℕ → List ℕ → Halved
+textHalving doc x = halve (contentItem doc x) (count doc)
+
+-- the turns of the second halving, after the first: none where the text was not found
+abbrev pub keyTurns : List ℕ → ℕ → ℕ → Halved → ℕ
+keyTurns doc c n (found k turns) = turnsOf (keys doc c n (slot doc k))
+keyTurns doc c n (missed k turns) = 0
+keyTurns doc c n broken = 0
 
 -- ---- the plain scan
 

@@ -25,3 +25,8 @@ pub member-at : (ms : Members) (j : ℕ) → j < sizem ms → (k : List ℕ) × 
 member-at end j h = absurd (omega arith)
 member-at (member k t ms) zero h = (k, t, (refl, refl))
 member-at (member k t ms) (suc j) h = member-at ms j (omega arith)
+
+pub member-below : (ms : Members) (j : ℕ) (k : List ℕ) (v : Tree) → MemberIs ms j k v → j < sizem ms
+member-below end j k v h = absurd h
+member-below (member x t ms) zero k v h = omega arith
+member-below (member x t ms) (suc j) k v h = let r = member-below ms j k v h in omega arith

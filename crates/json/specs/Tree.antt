@@ -91,6 +91,50 @@ MemberIs (member x t ms) (suc j) k v = MemberIs ms j k v
 abbrev pub Lacks : Members → List ℕ → Type 0
 Lacks ms x = (j : ℕ) (v : Tree) → MemberIs ms j x v → ⊥
 
+-- ---- what a tree is not
+
+abbrev pub NoNumber : Tree → Type 0
+NoNumber null = Unit {0}
+NoNumber (bool b) = Unit {0}
+NoNumber (num s m) = ⊥
+NoNumber (str s) = Unit {0}
+NoNumber (arr ts) = Unit {0}
+NoNumber (obj ms) = Unit {0}
+
+abbrev pub NoString : Tree → Type 0
+NoString null = Unit {0}
+NoString (bool b) = Unit {0}
+NoString (num s m) = Unit {0}
+NoString (str s) = ⊥
+NoString (arr ts) = Unit {0}
+NoString (obj ms) = Unit {0}
+
+abbrev pub NoArray : Tree → Type 0
+NoArray null = Unit {0}
+NoArray (bool b) = Unit {0}
+NoArray (num s m) = Unit {0}
+NoArray (str s) = Unit {0}
+NoArray (arr ts) = ⊥
+NoArray (obj ms) = Unit {0}
+
+abbrev pub NoObject : Tree → Type 0
+NoObject null = Unit {0}
+NoObject (bool b) = Unit {0}
+NoObject (num s m) = Unit {0}
+NoObject (str s) = Unit {0}
+NoObject (arr ts) = Unit {0}
+NoObject (obj ms) = ⊥
+
+abbrev pub NoContainer : Tree → Type 0
+NoContainer null = Unit {0}
+NoContainer (bool b) = Unit {0}
+NoContainer (num s m) = Unit {0}
+NoContainer (str s) = Unit {0}
+NoContainer (arr ts) = ⊥
+NoContainer (obj ms) = ⊥
+
+-- ---- subtrees
+
 -- u is the tree t itself, or stands somewhere below it
 pub data Subtree (t : Tree) : Tree → Type 0 where
   whole : Subtree t t
