@@ -6,3 +6,4 @@ pub mod Answers
 pub mod Halves
 pub mod Lookups
 pub mod Demands
+pub mod Examples

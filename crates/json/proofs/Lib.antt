@@ -3,3 +3,4 @@ pub mod Reading
 pub mod Texts
 pub mod Tree
 pub mod Bytes
+pub mod Examples

@@ -9,8 +9,7 @@ use lib.Dec.{T, leb, eqb, eqb→eq}
 use lib.Ieee as Ieee
 use lib.Ieee.Digits.{Equals, odd-val}
 use lib.Ieee.Bits.{cond-no}
-use Rattle.json.specs.Number.{Float, binary32, binary64, exponent, fraction, negative, finite, significand, magnitude, floatTree, wholeTree, signedTree}
-use Rattle.json.specs.Choose.{choose}
+use Rattle.json.specs.Number.{Float, binary32, binary64, exponent, fraction, negative, finite, significand, magnitude}
 
 -- x is finite, negative where s is true, and m is 2 ^ 1074 times its magnitude
 abbrev pub Valued : Ieee.Float → Bool → ℕ → Type 0
@@ -101,12 +100,3 @@ agrees32 = agrees Ieee.binary32 binary32 refl refl refl (λ b. omega arith) refl
 
 pub infinite32 : (b : ℕ) → T (not (finite binary32 b)) → Unvalued (Ieee.ofBits Ieee.binary32 b)
 infinite32 = differs Ieee.binary32 binary32 refl refl refl (λ b. omega arith) refl (omega arith)
-
--- the same numbers in other spellings
-pub one-and-minus-two : (floatTree binary64 0x3FF0000000000000 ≡ wholeTree 1) × (floatTree binary32 0xC0000000 ≡ signedTree 8 254)
-unfolding floatTree magnitude wholeTree signedTree choose
-one-and-minus-two = (refl, refl)
-
-pub smallest32 : floatTree binary32 1 ≡ floatTree binary64 0x36A0000000000000
-unfolding floatTree magnitude
-smallest32 = refl
