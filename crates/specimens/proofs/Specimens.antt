@@ -1,0 +1,28 @@
+-- One claim: of each of the fourteen specimens the definitions say what document 01 says. And the two lookups.
+use Prim.Native.Nat.{ℕ, zero, suc, _+_, _-_, _*_, _/_, _%_, _^_}
+use mathlib.Core.List.{List, [], _∷_, _++_, map}
+use mathlib.Core.Path.{_≡_, refl}
+use Rattle.json.specs.Bytes.{number}
+use Rattle.json.specs.Choose.{choose}
+use Rattle.json.specs.Number.{finite, magnitude, floatTree, wholeTree, signedTree}
+use Rattle.json.specs.Reading.{follow, _>>=_, need, ask, answers}
+use Rattle.json.specs.Texts.{byNumbers, compareTexts}
+use Rattle.binary_json_rules.specs.Areas as B
+use Rattle.binary_json_rules.specs.Verdict as BV
+use Rattle.binary_json_rules.specs.TreeOf as BT
+use Rattle.binary_json_rules.specs.Questions as BQ
+use Rattle.binary_json_rules.specs.Halving as BH
+use Rattle.binary_json_rules.specs.Lookup as BL
+use Rattle.fractured_json_rules.specs.ByteTables as F
+use Rattle.fractured_json_rules.specs.Meaning as FM
+use Rattle.fractured_json_rules.specs.Verdict as FV
+use Rattle.fractured_json_rules.specs.TreeOf as FT
+use Rattle.specimens.specs.Specimens.{saysOf, Specimen, specimens, aTrue, keyA, keyB, lookupA, lookupB}
+
+pub specimens-hold : map (λ s. saysOf (s .format) (s .doc)) specimens ≡ map (λ s. s .says) specimens
+unfolding follow _>>=_ need choose number finite magnitude floatTree wholeTree signedTree byNumbers compareTexts B.index B.count B.slot B.text B.content B.numbers B.kindOf B.typeOf BV.header BV.ascends BV.slots BV.slotNamed BV.numberNamed BV.keyEntries BV.entryBy BV.entry BV.entries BV.containerBy BV.container BV.scalar BV.rootBy BV.check BT.entryTreeBy BT.entryTree BT.entryTrees BT.memberTrees BT.containerTreeBy BT.containerTree BT.treeOf F.formOf F.keyFormOf FM.tinyTree FV.header FV.byteAt FV.payload FV.lengthAt FV.afterSecond FV.afterFirst FV.indexAt FV.inTurn FV.member FV.valueBy FV.value FV.met FV.newKey FV.oldKey FV.checkKeyBy FV.checkKey FV.check FT.spelledIn FT.keyEnd FT.steps FT.endBy FT.endAt FT.keyTextAt FT.valueTrees FT.memberTrees FT.treeBy FT.treeAt FT.treeOf
+specimens-hold = refl
+
+pub lookups-hold : (ask (BL.quickLookup aTrue 4 keyA) ≡ answers lookupA) × (ask (BL.quickLookup aTrue 4 keyB) ≡ answers lookupB)
+unfolding follow _>>=_ need choose number byNumbers compareTexts B.index B.count B.slot B.text B.numbers B.kindOf BV.header BQ.opening BQ.treeWord BQ.body BQ.membersBy BQ.object BQ.slotRead BH.turn BH.halveIf BH.halveFrom BH.halve BL.afterKeys BL.afterStrings BL.quickLookup
+lookups-hold = (refl, refl)
