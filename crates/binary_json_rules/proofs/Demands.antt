@@ -10,6 +10,7 @@ use Rattle.json.specs.Reading.{Outcome, ask, answers, refuses}
 use Rattle.json.specs.Bytes.{number, part}
 use Rattle.json.specs.Number.{binary64, finite, floatTree}
 use Rattle.json.specs.Span.{Span}
+use Rattle.json.specs.Texts.{compareNumbers}
 use Rattle.json.specs.Tree.{Tree, null, bool, num, str, arr, obj, Trees, Members, size, sizem, ElementIs, MemberIs, Lacks, NoNumber, NoString, NoObject, NoContainer, Subtree}
 use Rattle.json.proofs.Tree.{element-at, member-at}
 use Rattle.json.proofs.Reading.{stops}
@@ -20,16 +21,21 @@ use Rattle.binary_json_rules.specs.TreeOf.{treeOf}
 use Rattle.binary_json_rules.specs.Leads.{EntryOf, Leads, named}
 use Rattle.binary_json_rules.specs.Questions.{kindAndSize, element, MemberAt, keyEntryOf, entryOf, memberAt, slotText, slotBytes, entryType, containerAt, stringAt, stringBytes, numberAt}
 use Rattle.binary_json_rules.specs.Halving.{digits, turnsOf, Halved, found, missed, broken}
-use Rattle.binary_json_rules.specs.Lookup.{Found, entry, absent, Counted, counted, quickLookup, contentItem, textHalving, keyTurns, plainScan}
+use Rattle.binary_json_rules.specs.Lookup.{Found, entry, absent, keyItem, keys, Counted, counted, quickLookup, contentItem, textHalving, keyTurns, plainScan}
 use Rattle.binary_json_rules.specs.Answers.{sizedAs, typedAs}
 use Rattle.binary_json_rules.proofs.Sound.{sound}
 use Rattle.binary_json_rules.proofs.Complete.{complete}
 use Rattle.binary_json_rules.proofs.Trees.{means-tree}
 use Rattle.binary_json_rules.proofs.Nodes as Nodes
 use Rattle.binary_json_rules.proofs.Answers as Answers
-use Rattle.binary_json_rules.proofs.Halves.{halving-turns}
+use Rattle.binary_json_rules.proofs.Halves.{halving-turns, never-broken}
 use Rattle.binary_json_rules.proofs.Lookups.{has, lacks}
 use Rattle.binary_json_rules.proofs.Lookups as Lookups
+
+-- ---- The second halving compares numbers: it is never broken off, in any bytes.
+
+pub keys-never-broken : (doc : List ℕ) (c n v : ℕ) → keys doc c n v ≡ broken → ⊥
+keys-never-broken doc c n v = never-broken (keyItem doc c v) n (λ j. (compareNumbers (word doc (keyEntryOf c j)) v, refl))
 
 -- ---- Demand 2: "A document is accepted exactly if it keeps the format's rules as condensed in 01."
 

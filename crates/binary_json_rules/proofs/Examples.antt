@@ -130,6 +130,7 @@ pub questions-say :
     × (ask (memberAt (hex 16 0x81010000210000000000000000000000) 4 9) ≡ refuses 20 4)
     × (ask (memberAt (hex 16 0x81010000220000000100000000000000) 4 0) ≡ refuses 21 4)
     × (ask (memberAt (hex 12 0x010100000000000000000000) 4 0) ≡ refuses 21 4)
+    × (ask (memberAt (hex 16 0x81010000630C00000000000000000000) 4 0) ≡ refuses 21 4)
     × (ask (memberAt (hex 20 0x0102000021000000000000000000000000000000) 4 1) ≡ refuses 22 4)
     -- of a member only that its KeyEntry is a slot's offset
     × (ask (memberAt (hex 20 0x0102000021000000000000000000000000000000) 4 0) ≡ refuses 20 4)
@@ -147,6 +148,8 @@ pub questions-say :
     × (ask (entryType (hex 16 0x81010000200000008300000000000000) 8) ≡ answers 3)
     × (ask (stringAt (hex 16 0x81010000200000000600000000000000) 8) ≡ refuses 21 8)
     × (ask (stringAt (hex 16 0x81010000200000008300000000000000) 8) ≡ refuses 20 8)
+    × (ask (containerAt (hex 16 0x81010000200000000600000000000000) 8) ≡ refuses 21 8)
+    × (ask (numberAt (hex 16 0x81010000200000000600000000000000) 8) ≡ refuses 21 8)
     × (ask (containerAt (hex 16 0x81010000200000008300000000000000) 8) ≡ refuses 21 8)
     × (ask (containerAt (hex 20 0x0102000040000000C50000008501000000000000) 8) ≡ refuses 20 8)
     × (ask (containerAt (hex 20 0x0102000040000000C50000008501000000000000) 12) ≡ answers 12)
@@ -180,4 +183,4 @@ pub questions-say :
     × (ask (quickLookup (hex 12 0x010100000000000000000000) 4 (97 ∷ [])) ≡ refuses 21 4)
     × (ask (plainScan (hex 12 0x010100000000000000000000) 4 (97 ∷ [])) ≡ refuses 21 4)
 unfolding need _>>=_ follow choose number finite byNumbers compareTexts index count slot text content numbers kindOf typeOf header slotNamed numberNamed opening treeWord body bodyBy kindAndSize elementsBy element membersBy object memberAt slotRead textNamed slotText typeBy entryType isContainer isString isNumber containerAt stringAt numberAt turn halveIf halveFrom halve afterKeys afterStrings quickLookup scanFrom plainScan
-questions-say = (refl, refl, refl, refl, refl, refl, refl, refl, refl, refl, refl, refl, refl, refl, refl, refl, refl, refl, refl, refl, refl, refl, refl, refl, refl, refl, refl, refl, refl, refl, refl, refl, refl, refl, refl, refl, refl, refl, refl, refl, refl, refl, refl, refl, refl, refl, refl, refl, refl, refl, refl, refl, refl, refl, refl, refl, refl, refl, refl, refl, refl)
+questions-say = (refl, refl, refl, refl, refl, refl, refl, refl, refl, refl, refl, refl, refl, refl, refl, refl, refl, refl, refl, refl, refl, refl, refl, refl, refl, refl, refl, refl, refl, refl, refl, refl, refl, refl, refl, refl, refl, refl, refl, refl, refl, refl, refl, refl, refl, refl, refl, refl, refl, refl, refl, refl, refl, refl, refl, refl, refl, refl, refl, refl, refl, refl, refl, refl)

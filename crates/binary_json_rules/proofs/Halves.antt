@@ -119,6 +119,40 @@ module _ (item other : ℕ → Item) (m : ℕ) (same : (i : ℕ) → i < m → i
   unfolding halve
   halving-same = same-from m 0 m 0 (omega arith)
 
+-- ---- items that can all be read, sorted or not, end every halving
+
+module _ (item : ℕ → Item) (m : ℕ) (readable : (i : ℕ) → (o : Order) × (item i ≡ compares o)) where
+  abbrev Whole : ℕ → Type 0
+  Whole f = (low high n : ℕ) → halveFrom f item low high n ≡ broken → ⊥
+
+  missed≢broken : (l n : ℕ) → missed l n ≡ broken → ⊥
+  missed≢broken l n e = let z : _≡_ {A = ℕ} 0 1 = cc in omega arith
+
+  found≢broken : (k n : ℕ) → found k n ≡ broken → ⊥
+  found≢broken k n e = let z : _≡_ {A = ℕ} 0 1 = cc in omega arith
+
+  whole-turn : (f : ℕ) → Whole f → (low mid high n : ℕ) (o : Order) → turn (halveFrom f item) low mid high n (compares o) ≡ broken → ⊥
+  unfolding turn
+  whole-turn f r low mid high n Below e = r (mid + 1) high (n + 1) e
+  whole-turn f r low mid high n Equal e = found≢broken mid (n + 1) e
+  whole-turn f r low mid high n Above e = r low mid (n + 1) e
+
+  whole-test : (f : ℕ) → Whole f → (low high n : ℕ) (b : Bool) → halveIf (halveFrom f item) item low high n b ≡ broken → ⊥
+  unfolding halveIf
+  whole-test f r low high n true e =
+      let (o, q) = readable (middle low high) in
+      whole-turn f r low (middle low high) high n o (rw q at e)
+  whole-test f r low high n false e = missed≢broken low n e
+
+  whole : (f : ℕ) → Whole f
+  unfolding halveFrom
+  whole zero low high n e = missed≢broken low n e
+  whole (suc f) low high n e = whole-test f (whole f) low high n (ltb low high) e
+
+  pub never-broken : halve item m ≡ broken → ⊥
+  unfolding halve
+  never-broken e = whole m 0 m 0 e
+
 -- ---- how many turns a halving takes
 
 module _ (item : ℕ → Item) where
