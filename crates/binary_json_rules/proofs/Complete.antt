@@ -16,7 +16,7 @@ use Rattle.json.specs.Tree.{Tree, null, bool, num, str, arr, obj, Trees, none, 
 use Rattle.json.proofs.Reading.{then, pass, need-yes, assoc}
 use Rattle.binary_json_rules.specs.Areas.{word, low, high, index, count, slot, text, content, numbers, kArray, kObject, kScalar, kindOf, typeOf}
 use Rattle.binary_json_rules.specs.Meaning.{SlotIs, NumberIs, Meta, EntryIs, EntriesAre, MembersAre, ScalarIs, ContainerIs, Fills, FillsAll, FillsMembers, RootFills, SlotGood, Means}
-use Rattle.binary_json_rules.specs.Verdict.{header, ascends, slots, slotNamed, numberNamed, keyEntries, entryBy, entry, entries, containerBy, container, scalar, rootBy, check}
+use Rattle.binary_json_rules.specs.Verdict.{header, ascends, slotRules, slots, slotNamed, numberNamed, keyEntries, entryBy, entry, entries, containerBy, container, scalar, rootBy, check}
 
 pub eq→eqb : {m n : ℕ} → m ≡ n → T (eqb m n)
 eq→eqb {m} {n} e = rw e (eqb-refl n)
@@ -122,13 +122,18 @@ module _ {S : Type 0} (doc : List ℕ) (s : S) where
   ascends-yes zero n h up = tt
   ascends-yes (suc k) n h up = rw (up k h) tt
 
+  slot-rules-done : (k : ℕ) → SlotGood doc k → T (ascends doc k) → slotRules doc k s ≡ done tt s
+  unfolding slotRules
+  slot-rules-done k g up =
+      pass _ _ _ _ s (eq→eqb (g .clear)) ∙ (pass _ _ _ _ s (lt→ltb _ _ (g .forward)) ∙ (pass _ _ _ _ s (le→leb _ _ (g .inside))
+      ∙ (pass _ _ _ _ s (eq→eqb (g .closed)) ∙ need-yes _ _ _ s up)))
+
   slots-done : (n k : ℕ) → ((j : ℕ) → k ≤ j → j < k + n → SlotGood doc j × T (ascends doc j)) → slots doc n k s ≡ done tt s
   unfolding slots
   slots-done zero k h = refl
   slots-done (suc n) k h =
       let (g, up) = h k (omega arith) (omega arith) in
-      pass _ _ _ _ s (eq→eqb (g .clear)) ∙ (pass _ _ _ _ s (lt→ltb _ _ (g .forward)) ∙ (pass _ _ _ _ s (le→leb _ _ (g .inside))
-      ∙ (pass _ _ _ _ s (eq→eqb (g .closed)) ∙ (pass _ _ _ _ s up ∙ slots-done n (suc k) (λ j a b. h j (omega arith) (omega arith))))))
+      then _ _ s (slot-rules-done k g up) ∙ slots-done n (suc k) (λ j a b. h j (omega arith) (omega arith))
 
   -- ---- the whole document
 

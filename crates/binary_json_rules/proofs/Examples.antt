@@ -15,7 +15,7 @@ use Rattle.json.specs.Reading.{Asked, ask, answers, refuses, follow, _>>=_, nee
 use Rattle.json.specs.Texts.{byNumbers, compareTexts}
 use Rattle.json.proofs.Reading.{stops, pass, fail}
 use Rattle.binary_json_rules.specs.Areas.{index, count, slot, text, content, numbers, kindOf, typeOf}
-use Rattle.binary_json_rules.specs.Verdict.{header, ascends, slots, slotNamed, numberNamed, keyEntries, entryBy, entry, entries, containerBy, container, scalar, rootBy, check, verdict}
+use Rattle.binary_json_rules.specs.Verdict.{header, ascends, slotRules, slots, slotNamed, numberNamed, keyEntries, entryBy, entry, entries, containerBy, container, scalar, rootBy, check, verdict}
 use Rattle.binary_json_rules.specs.Questions.{opening, treeWord, body, bodyBy, kindAndSize, elementsBy, element, membersBy, object, memberAt, slotRead, textNamed, slotText, typeBy, entryType, isContainer, isString, isNumber, containerAt, stringAt, numberAt}
 use Rattle.binary_json_rules.specs.Halving.{turn, halveIf, halveFrom, halve}
 use Rattle.binary_json_rules.specs.Lookup.{Found, absent, counted, afterKeys, afterStrings, quickLookup, scanFrom, plainScan}
@@ -95,7 +95,7 @@ checks =
     []
 
 pub checks-say : map (λ x. verdict (x .doc)) checks ≡ map (λ x. x .says) checks
-unfolding need _>>=_ follow choose number finite byNumbers compareTexts index count slot text content numbers kindOf typeOf header ascends slots slotNamed numberNamed keyEntries entryBy entry entries containerBy container scalar rootBy check
+unfolding need _>>=_ follow choose number finite byNumbers compareTexts index count slot text content numbers kindOf typeOf header ascends slotRules slots slotNamed numberNamed keyEntries entryBy entry entries containerBy container scalar rootBy check
 checks-say = refl
 
 -- 2, of any document over the limit

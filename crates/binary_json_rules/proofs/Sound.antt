@@ -20,7 +20,7 @@ use Rattle.json.specs.Tree.{Tree, null, bool, num, str, arr, obj, Trees, none, 
 use Rattle.json.proofs.Reading.{halt≢done, done-answer, step, passed, need-done, assoc}
 use Rattle.binary_json_rules.specs.Areas.{word, low, high, index, count, slot, text, content, numbers, Kind, kArray, kObject, kScalar, kOther, kindOf, EntryType, tFalse, tTrue, tNull, tString, tNumber, tContainer, tOther, typeOf}
 use Rattle.binary_json_rules.specs.Meaning.{SlotIs, NumberIs, Meta, EntryIs, EntriesAre, MembersAre, ScalarIs, ContainerIs, Fills, FillsAll, FillsMembers, RootFills, SlotGood, Means}
-use Rattle.binary_json_rules.specs.Verdict.{header, ascends, slots, slotNamed, numberNamed, keyEntries, entryBy, entry, entries, containerBy, container, scalar, rootBy, check, verdict}
+use Rattle.binary_json_rules.specs.Verdict.{header, ascends, slotRules, slots, slotNamed, numberNamed, keyEntries, entryBy, entry, entries, containerBy, container, scalar, rootBy, check, verdict}
 
 -- the container at o, which is an array or an object, stands for the tree, and its subtree ends at e
 abbrev pub BodyIs : List ℕ → Tree → ℕ → ℕ → Type 0
@@ -232,17 +232,22 @@ module _ {S : Type 0} (doc : List ℕ) where
 
   -- ---- slots
 
-  slots-sound : (n k : ℕ) (s : S) {u : Unit {0}} {z : S} → slots doc n k s ≡ done u z → (j : ℕ) → k ≤ j → j < k + n → Slot doc j
-  unfolding slots
-  slots-sound zero k s h j a b = absurd (omega arith)
-  slots-sound (suc n) k s h j a b =
+  slot-rules-sound : (k : ℕ) (s : S) {u : Unit {0}} {z : S} → slotRules doc k s ≡ done u z → Slot doc k
+  unfolding slotRules
+  slot-rules-sound k s h =
       let s1 = passed _ _ _ _ s h in
       let s2 = passed _ _ _ _ s (s1 .rest) in
       let s3 = passed _ _ _ _ s (s2 .rest) in
       let s4 = passed _ _ _ _ s (s3 .rest) in
-      let s5 = passed _ _ _ _ s (s4 .rest) in
       let good : SlotGood doc k = record { clear = eqb→eq _ _ (s1 .test); forward = ltb→lt _ _ (s2 .test); inside = leb→le _ _ (s3 .test); closed = eqb→eq _ _ (s4 .test) } in
-      cases (ℕ-discrete k j) (record { good = good; above = ascends-sound doc k (s5 .test) }) (slots-sound n (suc k) s (s5 .rest) j)
+      record { good = good; above = ascends-sound doc k (need-done _ _ _ s (s4 .rest)) }
+
+  slots-sound : (n k : ℕ) (s : S) {u : Unit {0}} {z : S} → slots doc n k s ≡ done u z → (j : ℕ) → k ≤ j → j < k + n → Slot doc j
+  unfolding slots
+  slots-sound zero k s h j a b = absurd (omega arith)
+  slots-sound (suc n) k s h j a b =
+      let p = step _ _ s h in
+      cases (ℕ-discrete k j) (slot-rules-sound k s (p .first)) (slots-sound n (suc k) (p .mid) (p .rest) j)
     where
       cases : Dec (k ≡ j) → Slot doc k → (suc k ≤ j → j < suc k + n → Slot doc j) → Slot doc j
       cases (yes e) here later = rw (← e) here

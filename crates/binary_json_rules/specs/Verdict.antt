@@ -33,15 +33,20 @@ unfoldable pub ascends : List ℕ → ℕ → Bool
 ascends doc zero = true
 ascends doc (suc k) = isBelow (compareTexts (content doc k) (content doc (suc k)))
 
--- n slots from slot k on
-unfoldable pub slots : {S : Type 0} → List ℕ → ℕ → ℕ → Reading S (Unit {0})
-slots doc zero k = answer tt
-slots doc (suc n) k = do
+-- slot k: low bits, end not past start, end past document, no closing zero; then its content
+unfoldable pub slotRules : {S : Type 0} → List ℕ → ℕ → Reading S (Unit {0})
+slotRules doc k = do
   need (eqb (low doc (slot doc k)) 0) 5 (slot doc k)
   need (ltb (text doc k) (text doc (suc k))) 5 (slot doc k)
   need (leb (text doc (suc k)) (length doc)) 5 (slot doc k)
   need (eqb (getD doc (text doc (suc k) - 1) 0) 0) 5 (slot doc k)
   need (ascends doc k) 6 (slot doc k)
+
+-- n slots in turn, from slot k on
+unfoldable pub slots : {S : Type 0} → List ℕ → ℕ → ℕ → Reading S (Unit {0})
+slots doc zero k = answer tt
+slots doc (suc n) k = do
+  slotRules doc k
   slots doc n (suc k)
 
 -- ---- what a word may name; the number and the place of the refusal are the caller's
