@@ -11,7 +11,7 @@ use Rattle.json.specs.Reading.{Outcome, done, halt, Reading, Asked, answer, ask
 use Rattle.json.specs.Bytes.{number, part}
 use Rattle.json.specs.Number.{binary64, finite, floatTree}
 use Rattle.json.specs.Span.{Span, spanned}
-use Rattle.json.specs.Tree.{Tree, null, bool, num, str, arr, obj, Trees, Members, member, end, size, sizem, MemberIs, NoNumber, NoString, NoObject, NoContainer}
+use Rattle.json.specs.Tree.{Tree, null, bool, num, str, arr, obj, Trees, Members, member, end, size, sizem, MemberIs, IsContainer, NoNumber, NoString, NoObject, NoContainer}
 use Rattle.json.proofs.Reading.{then, stops, pass, fail, need-yes}
 use Rattle.binary_json_rules.specs.Areas.{word, low, high, index, count, slot, text, content, numbers, Kind, kArray, kObject, kScalar, kOther, kindOf, EntryType, tFalse, tTrue, tNull, tString, tNumber, tContainer, tOther, typeOf}
 use Rattle.binary_json_rules.specs.Meaning.{SlotIs, NumberIs, Meta, EntryIs, MembersAre, ContainerIs, SlotGood, Means}
@@ -165,8 +165,8 @@ module _ (doc : List ℕ) (t : Tree) (m : Means doc t) where
   scalar-meta c (bool b) n h = h .0
   scalar-meta c (num s x) n h = h .0
   scalar-meta c (str s) n h = h .0
-  scalar-meta c (arr ts) n h = absurd n
-  scalar-meta c (obj ms) n h = absurd n
+  scalar-meta c (arr ts) n h = absurd (n tt)
+  scalar-meta c (obj ms) n h = absurd (n tt)
 
   pub scalar-answer : (c : ℕ) (u : Tree) → NoContainer u → ContainerIs doc u c → Aligned c → ask (element doc c 0) ≡ answers (c + 4)
   scalar-answer c u n h z =
@@ -191,7 +191,7 @@ module _ (doc : List ℕ) (t : Tree) (m : Means doc t) where
   other-kind c (num s x) n h = rw (h .0 .kind-is)
   other-kind c (str s) n h = rw (h .0 .kind-is)
   other-kind c (arr ts) n h = rw (h .0 .kind-is)
-  other-kind c (obj ms) n h = absurd n
+  other-kind c (obj ms) n h = absurd (n ms refl)
 
   pub object-wrong : (c : ℕ) (u : Tree) → NoObject u → ContainerIs doc u c → Aligned c → ask (object doc c) ≡ refuses 21 c
   unfolding object
@@ -289,23 +289,23 @@ module _ (doc : List ℕ) (t : Tree) (m : Means doc t) where
 
   -- the container of an Entry
 
-  pub container-type : (a : ℕ) (v : Tree) → (NoContainer v → ⊥) → EntryIs doc v a → typeOf (low doc a) ≡ tContainer
-  container-type a null n h = absurd (n tt)
-  container-type a (bool b) n h = absurd (n tt)
-  container-type a (num s x) n h = absurd (n tt)
-  container-type a (str s) n h = absurd (n tt)
+  pub container-type : (a : ℕ) (v : Tree) → IsContainer v → EntryIs doc v a → typeOf (low doc a) ≡ tContainer
+  container-type a null n h = absurd n
+  container-type a (bool b) n h = absurd n
+  container-type a (num s x) n h = absurd n
+  container-type a (str s) n h = absurd n
   container-type a (arr ts) n h = h .0
   container-type a (obj ms) n h = h .0
 
-  pub container-named : (a : ℕ) (v : Tree) → (NoContainer v → ⊥) → EntryIs doc v a → ContainerIs doc v (high doc a)
-  container-named a null n h = absurd (n tt)
-  container-named a (bool b) n h = absurd (n tt)
-  container-named a (num s x) n h = absurd (n tt)
-  container-named a (str s) n h = absurd (n tt)
+  pub container-named : (a : ℕ) (v : Tree) → IsContainer v → EntryIs doc v a → ContainerIs doc v (high doc a)
+  container-named a null n h = absurd n
+  container-named a (bool b) n h = absurd n
+  container-named a (num s x) n h = absurd n
+  container-named a (str s) n h = absurd n
   container-named a (arr ts) n h = h .1
   container-named a (obj ms) n h = h .1
 
-  pub container-answer : (a : ℕ) (v : Tree) → (NoContainer v → ⊥) → EntryIs doc v a → Aligned a → a + 4 ≤ index doc → Aligned (high doc a) → ask (containerAt doc a) ≡ answers (high doc a)
+  pub container-answer : (a : ℕ) (v : Tree) → IsContainer v → EntryIs doc v a → Aligned a → a + 4 ≤ index doc → Aligned (high doc a) → ask (containerAt doc a) ≡ answers (high doc a)
   unfolding containerAt isContainer
   container-answer a v n h z i y =
       comes-to a _ z i ∙ rw (container-type a v n h) (then _ _ tt refl ∙ then _ _ tt (word-in (high doc a) a y (body-inside v (high doc a) (container-named a v n h))))
@@ -317,8 +317,8 @@ module _ (doc : List ℕ) (t : Tree) (m : Means doc t) where
   no-container a (bool true) n = refl
   no-container a (num s x) n = refl
   no-container a (str s) n = refl
-  no-container a (arr ts) n = absurd n
-  no-container a (obj ms) n = absurd n
+  no-container a (arr ts) n = absurd (n tt)
+  no-container a (obj ms) n = absurd (n tt)
 
   pub container-wrong : (a : ℕ) (v : Tree) → NoContainer v → EntryIs doc v a → Aligned a → a + 4 ≤ index doc → ask (containerAt doc a) ≡ refuses 21 a
   unfolding containerAt
@@ -336,7 +336,7 @@ module _ (doc : List ℕ) (t : Tree) (m : Means doc t) where
   no-string a (bool false) n = refl
   no-string a (bool true) n = refl
   no-string a (num s x) n = refl
-  no-string a (str s) n = absurd n
+  no-string a (str s) n = absurd (n s refl)
   no-string a (arr ts) n = refl
   no-string a (obj ms) n = refl
 
@@ -355,7 +355,7 @@ module _ (doc : List ℕ) (t : Tree) (m : Means doc t) where
   no-number a null n = refl
   no-number a (bool false) n = refl
   no-number a (bool true) n = refl
-  no-number a (num s x) n = absurd n
+  no-number a (num s x) n = absurd (n s x refl)
   no-number a (str s) n = refl
   no-number a (arr ts) n = refl
   no-number a (obj ms) n = refl

@@ -11,7 +11,7 @@ use Rattle.json.specs.Bytes.{number, part}
 use Rattle.json.specs.Number.{binary64, finite, floatTree}
 use Rattle.json.specs.Span.{Span}
 use Rattle.json.specs.Texts.{compareNumbers}
-use Rattle.json.specs.Tree.{Tree, null, bool, num, str, arr, obj, Trees, Members, size, sizem, ElementIs, MemberIs, Lacks, NoNumber, NoString, NoObject, NoContainer, Subtree}
+use Rattle.json.specs.Tree.{Tree, null, bool, num, str, arr, obj, Trees, Members, size, sizem, ElementIs, MemberIs, Lacks, IsContainer, NoNumber, NoString, NoObject, NoContainer, Subtree}
 use Rattle.json.proofs.Tree.{element-at, member-at}
 use Rattle.json.proofs.Reading.{stops}
 use Rattle.binary_json_rules.specs.Areas.{word, low, high, index, count, slot, content, tContainer, typeOf}
@@ -130,7 +130,7 @@ module _ (doc : List ℕ) (t : Tree) (m : Means doc t) where
       entry-type v h = Answers.type-answer doc t m a v h (at .aligned) (at .inside)
 
       -- its container, which stands for the same tree; 21 of a scalar
-      pub container-of-entry : (v : Tree) → (NoContainer v → ⊥) → EntryIs doc v a
+      pub container-of-entry : (v : Tree) → IsContainer v → EntryIs doc v a
           → (ask (containerAt doc a) ≡ answers (high doc a)) × Leads doc (high doc a) × ContainerIs doc v (high doc a)
       container-of-entry v n h =
           let k = Answers.container-type doc t m a v n h in (

@@ -119,8 +119,8 @@ module _ (doc : List ℕ) where
   scalar-is (bool b) c n h = h .1
   scalar-is (num s m) c n h = h .1
   scalar-is (str s) c n h = h .1
-  scalar-is (arr ts) c n h = absurd n
-  scalar-is (obj ms) c n h = absurd n
+  scalar-is (arr ts) c n h = absurd (n tt)
+  scalar-is (obj ms) c n h = absurd (n tt)
 
   -- the containers below it
   record Child (a i : ℕ) (v : Tree) : Type 0 where

@@ -1,0 +1,14 @@
+pub mod ByteTables
+pub mod Readers
+pub mod Keys
+pub mod Sound
+pub mod Walk
+pub mod Complete
+pub mod Trees
+pub mod KeyTable
+pub mod Nodes
+pub mod Answers
+pub mod Numbers
+pub mod Questions
+pub mod Demands
+pub mod Examples

@@ -30,3 +30,19 @@ pub member-below : (ms : Members) (j : ℕ) (k : List ℕ) (v : Tree) → Member
 member-below end j k v h = absurd h
 member-below (member x t ms) zero k v h = omega arith
 member-below (member x t ms) (suc j) k v h = let r = member-below ms j k v h in omega arith
+
+-- a subtree is nested no deeper than the tree
+element-depth : (ts : Trees) (i : ℕ) (v : Tree) → ElementIs ts i v → depth v ≤ depths ts
+element-depth none i v h = absurd h
+element-depth (more t ts) zero v h = rw h (omega arith)
+element-depth (more t ts) (suc i) v h = let r = element-depth ts i v h in omega arith
+
+member-depth : (ms : Members) (j : ℕ) (k : List ℕ) (v : Tree) → MemberIs ms j k v → depth v ≤ depthm ms
+member-depth end j k v h = absurd h
+member-depth (member x t ms) zero k v h = rw (h .1) (omega arith)
+member-depth (member x t ms) (suc j) k v h = let r = member-depth ms j k v h in omega arith
+
+pub subtree-depth : (t : Tree) {u : Tree} → Subtree t u → depth u ≤ depth t
+subtree-depth t whole = omega arith
+subtree-depth t (element ts i s h) = let r = subtree-depth t s in let d = element-depth ts i _ h in omega arith
+subtree-depth t (value ms j k s h) = let r = subtree-depth t s in let d = member-depth ms j k _ h in omega arith

@@ -3,6 +3,7 @@
 use Prim.Native.Nat.{ℕ, zero, suc, _+_, max}
 use mathlib.Core.Bool.{Bool, true, false, Bool-discrete}
 use mathlib.Core.List.{List, [], _∷_, List-discrete}
+use mathlib.Core.Logic.{_≢_}
 use mathlib.Core.Path.{_≡_}
 use native.Mathlib.Decide.{ℕ-discrete}
 
@@ -91,47 +92,30 @@ MemberIs (member x t ms) (suc j) k v = MemberIs ms j k v
 abbrev pub Lacks : Members → List ℕ → Type 0
 Lacks ms x = (j : ℕ) (v : Tree) → MemberIs ms j x v → ⊥
 
--- ---- what a tree is not
+-- ---- what a tree is, and what it is not
 
-abbrev pub NoNumber : Tree → Type 0
-NoNumber null = Unit {0}
-NoNumber (bool b) = Unit {0}
-NoNumber (num s m) = ⊥
-NoNumber (str s) = Unit {0}
-NoNumber (arr ts) = Unit {0}
-NoNumber (obj ms) = Unit {0}
-
-abbrev pub NoString : Tree → Type 0
-NoString null = Unit {0}
-NoString (bool b) = Unit {0}
-NoString (num s m) = Unit {0}
-NoString (str s) = ⊥
-NoString (arr ts) = Unit {0}
-NoString (obj ms) = Unit {0}
-
-abbrev pub NoArray : Tree → Type 0
-NoArray null = Unit {0}
-NoArray (bool b) = Unit {0}
-NoArray (num s m) = Unit {0}
-NoArray (str s) = Unit {0}
-NoArray (arr ts) = ⊥
-NoArray (obj ms) = Unit {0}
-
-abbrev pub NoObject : Tree → Type 0
-NoObject null = Unit {0}
-NoObject (bool b) = Unit {0}
-NoObject (num s m) = Unit {0}
-NoObject (str s) = Unit {0}
-NoObject (arr ts) = Unit {0}
-NoObject (obj ms) = ⊥
+abbrev pub IsContainer : Tree → Type 0
+IsContainer null = ⊥
+IsContainer (bool b) = ⊥
+IsContainer (num s m) = ⊥
+IsContainer (str s) = ⊥
+IsContainer (arr ts) = Unit {0}
+IsContainer (obj ms) = Unit {0}
 
 abbrev pub NoContainer : Tree → Type 0
-NoContainer null = Unit {0}
-NoContainer (bool b) = Unit {0}
-NoContainer (num s m) = Unit {0}
-NoContainer (str s) = Unit {0}
-NoContainer (arr ts) = ⊥
-NoContainer (obj ms) = ⊥
+NoContainer u = IsContainer u → ⊥
+
+abbrev pub NoNumber : Tree → Type 0
+NoNumber u = (s : Bool) (m : ℕ) → u ≢ num s m
+
+abbrev pub NoString : Tree → Type 0
+NoString u = (x : List ℕ) → u ≢ str x
+
+abbrev pub NoArray : Tree → Type 0
+NoArray u = (ts : Trees) → u ≢ arr ts
+
+abbrev pub NoObject : Tree → Type 0
+NoObject u = (ms : Members) → u ≢ obj ms
 
 -- ---- subtrees
 

@@ -1,0 +1,262 @@
+-- Small documents with what the check and the questions say of them: each number of refusal with its place and the pairs of
+-- the keys passed until then, and good answers of each question. 32 is shown for every document that is too long.
+use Prim.Native.Nat.{ℕ, zero, suc, _-_, _/_, _%_, _^_, _≤_, _<_}
+use mathlib.Core.List.{List, [], _∷_, _++_, map}
+use mathlib.Core.Path.{_≡_, refl, _∙_}
+use native.Mathlib.Omega.{arith}
+use lib.Dec.{leb→le, le→leb}
+use lib.ListN.{length, replicate}
+use Rattle.json.specs.Bytes.{number, hex}
+use Rattle.json.specs.Choose.{choose}
+use Rattle.json.specs.Limits.{leastFractured, longest}
+use Rattle.json.specs.Number.{finite}
+use Rattle.json.specs.Reading.{halt, done, follow, _>>=_, need, Asked, ask, answers, refuses}
+use Rattle.json.specs.Texts.{byNumbers, compareTexts}
+use Rattle.json.proofs.Reading.{stops, pass, fail}
+use Rattle.fractured_json_rules.specs.ByteTables.{formOf, keyFormOf}
+use Rattle.fractured_json_rules.specs.Verdict.{header, byteAt, payload, lengthAt, afterSecond, afterFirst, indexAt, inTurn, member, valueBy, value, met}
+use Rattle.fractured_json_rules.specs.Verdict.{newKey, oldKey, checkKeyBy, checkKey, check, verdict}
+use Rattle.fractured_json_rules.specs.KeyTable.{roomOf, stored, Checked, checked}
+use Rattle.fractured_json_rules.specs.Questions.{opening, textKey, backKey, readKeyBy, readKey, passKey, endOf, Kind, isNull, isFalse, isTrue, isNumber}
+use Rattle.fractured_json_rules.specs.Questions.{isString, isObject, isArray, kindBy, kind, numberBy, stringBy, stringBytes, arrayBy, objectBy}
+use Rattle.fractured_json_rules.specs.Questions.{elementFrom, memberFrom, Found, valueAt, findFrom, findIn, firstMember}
+use Rattle.fractured_json_rules.specs.Questions as Questions
+
+-- a value in n arrays of one element each
+abbrev nested : ℕ → List ℕ → List ℕ
+nested n rest = hex 3 0x464A01 ++ replicate n 0x9F ++ rest
+
+-- ---- the check
+
+-- a document, the words lent, and what the check says and leaves in them
+record Example : Type 0 where
+  doc : List ℕ
+  lent : List ℕ
+  says : Checked
+
+-- so many words lent, each 9; the pairs of the keys passed stand in the first of them, and the others still hold 9
+abbrev example : List ℕ → ℕ → Asked (Unit {0}) → List ℕ → Example
+example doc lent verdict passed = record {
+  doc = doc;
+  lent = replicate lent 9;
+  says = record { verdict = verdict; count = length passed / 2; words = passed ++ replicate (lent - length passed) 9 };
+}
+
+abbrev accepted : Asked (Unit {0})
+accepted = answers tt
+
+abbrev examples : List Example
+examples =
+    -- 31: under 4 bytes
+    example (hex 3 0x464A01) 4 (refuses 31 3) [] ∷
+    -- 33 and 34
+    example (hex 4 0x464B0200) 4 (refuses 33 0) [] ∷
+    example (hex 4 0x474A0100) 4 (refuses 33 0) [] ∷
+    example (hex 4 0x464A1100) 4 (refuses 34 2) [] ∷
+    -- 35: type byte, length, payload, text; key byte, v_uint16, key text
+    example (hex 4 0x464A019F) 4 (refuses 35 4) [] ∷
+    example (hex 6 0x464A016F0461) 4 (refuses 35 6) (5 ∷ 1 ∷ []) ∷
+    example (hex 5 0x464A010E00) 4 (refuses 35 3) [] ∷
+    example (hex 6 0x464A019F0C00) 4 (refuses 35 4) [] ∷
+    example (hex 5 0x464A011861) 4 (refuses 35 3) [] ∷
+    example (hex 9 0x464A0115FFFFFFFF00) 4 (refuses 35 9) [] ∷
+    example (hex 4 0x464A016F) 4 (refuses 35 4) [] ∷
+    example (hex 7 0x464A016F008080) 4 (refuses 35 4) [] ∷
+    example (hex 6 0x464A016F0561) 4 (refuses 35 4) [] ∷
+    -- 36: type byte, key byte
+    example (hex 4 0x464A01FE) 4 (refuses 36 3) [] ∷
+    example (hex 7 0x464A01700461FE) 4 (refuses 36 6) (5 ∷ 1 ∷ []) ∷
+    example (hex 5 0x464A016FFF) 4 (refuses 36 4) [] ∷
+    -- 37
+    example (hex 8 0x464A016F00808004) 4 (refuses 37 7) [] ∷
+    example (hex 8 0x464A016F00FFFF80) 4 (refuses 37 7) [] ∷
+    -- 38: back reference, global index
+    example (hex 6 0x464A016F5700) 4 (refuses 38 4) [] ∷
+    example (hex 9 0x464A016F04616F5800) 4 (refuses 38 7) (5 ∷ 1 ∷ []) ∷
+    example (hex 9 0x464A016F01FFFF0300) 4 (refuses 38 4) [] ∷
+    example (hex 6 0x464A016FAB00) 4 (refuses 38 4) [] ∷
+    example (hex 8 0x464A016F02808000) 4 (refuses 38 4) [] ∷
+    -- 39 and 40
+    example (hex 10 0x464A0170046100046100) 3 (refuses 39 7) (5 ∷ 1 ∷ []) ∷
+    example (hex 12 0x464A01A06F0461006F046100) 4 (refuses 39 9) (6 ∷ 1 ∷ []) ∷
+    example (hex 7 0x464A016F046100) 1 (refuses 40 4) [] ∷
+    example (hex 10 0x464A0170046100046200) 3 (refuses 40 7) (5 ∷ 1 ∷ []) ∷
+    -- 41: behind the length, before the contents
+    example (nested 32 (hex 1 0x9E)) 4 (refuses 41 35) [] ∷
+    example (nested 32 (hex 5 0x15FFFFFFFF)) 4 (refuses 41 35) [] ∷
+    example (nested 32 (hex 1 0x13)) 4 (refuses 35 35) [] ∷
+    -- 42
+    example (hex 5 0x464A0100FF) 4 (refuses 42 4) [] ∷
+    example (hex 8 0x464A016F04610000) 4 (refuses 42 7) (5 ∷ 1 ∷ []) ∷
+    -- 43
+    example (hex 12 0x464A010C000000000000F07F) 4 (refuses 43 3) [] ∷
+    example (hex 8 0x464A010B0000807F) 4 (refuses 43 3) [] ∷
+    example (nested 32 (hex 9 0x0C000000000000F07F)) 4 (refuses 43 35) [] ∷
+    -- accepted
+    example (hex 4 0x464A016E) 0 accepted [] ∷
+    example (hex 7 0x464A016F046100) 3 accepted (5 ∷ 1 ∷ []) ∷
+    example (hex 9 0x464A016F04616F5700) 4 accepted (5 ∷ 1 ∷ []) ∷
+    example (hex 9 0x464A01700461005701) 4 accepted (5 ∷ 1 ∷ []) ∷
+    example (hex 11 0x464A017004610005610000) 4 accepted (5 ∷ 1 ∷ 8 ∷ 2 ∷ []) ∷
+    example (hex 9 0x464A016F0080800000) 4 accepted (8 ∷ 0 ∷ []) ∷
+    example (hex 10 0x464A016F008180006100) 4 accepted (8 ∷ 1 ∷ []) ∷
+    example (nested 31 (hex 1 0x9E)) 4 accepted [] ∷
+    example (nested 32 (hex 1 0x00)) 4 accepted [] ∷
+    []
+
+pub check-says : map (λ e. checked (e .doc) (e .lent)) examples ≡ map (λ e. e .says) examples
+unfolding follow _>>=_ need choose number finite byNumbers compareTexts formOf keyFormOf header byteAt payload lengthAt afterSecond afterFirst indexAt
+    inTurn member valueBy value met newKey oldKey checkKeyBy checkKey check roomOf stored
+check-says = refl
+
+-- 32: over 65,536 bytes
+pub too-long : (room : ℕ) (doc : List ℕ) → longest < length doc → verdict room doc ≡ halt 32 (length doc) []
+unfolding check header
+too-long room doc h =
+    let long : leastFractured ≤ length doc = omega arith in
+    stops _ _ [] (pass _ _ _ _ [] (le→leb _ _ long) ∙ fail _ _ _ _ [] (λ t. let s = leb→le (length doc) longest t in omega arith))
+
+-- ---- the questions
+
+-- a question with its cursor
+pub data Question : Type 0 where
+  endAt kindAt numberAt stringAt stringBytesAt : ℕ → Question
+  elementAt memberAt : ℕ → ℕ → Question
+  firstMemberOf : ℕ → List ℕ → Question
+
+pub data Answer : Type 0 where
+  refused : (number place : ℕ) → Answer
+  placeIs : ℕ → Answer
+  placesAre : (key value : ℕ) → Answer
+  absent : Answer
+  kindIs : Kind → Answer
+  bitsAre : (type bits : ℕ) → Answer
+  spanIs : (place len : ℕ) → Answer
+  bytesAre : List ℕ → Answer
+
+abbrev reply : {A : Type 0} → (A → Answer) → Asked A → Answer
+reply f (halt number place u) = refused number place
+reply f (done a u) = f a
+
+abbrev foundAt : Found → Answer
+foundAt (valueAt p) = placeIs p
+foundAt Questions.absent = absent
+
+-- the question, put to a document with a key table and its count
+abbrev put : List ℕ → List ℕ → ℕ → Question → Answer
+put doc table count (endAt c) = reply placeIs (ask (endOf doc table count c))
+put doc table count (kindAt c) = reply kindIs (ask (kind doc c))
+put doc table count (numberAt c) = reply (λ b. bitsAre (b .type) (b .bits)) (ask (Questions.numberAt doc c))
+put doc table count (stringAt c) = reply (λ s. spanIs (s .place) (s .len)) (ask (Questions.stringAt doc c))
+put doc table count (stringBytesAt c) = bytesAre (stringBytes doc c)
+put doc table count (elementAt c i) = reply placeIs (ask (Questions.elementAt doc table count c i))
+put doc table count (memberAt c j) = reply (λ p. placesAre (p .key) (p .value)) (ask (Questions.memberAt doc table count c j))
+put doc table count (firstMemberOf c x) = reply foundAt (ask (firstMember doc table count c x))
+
+record Line : Type 0 where
+  doc : List ℕ
+  table : List ℕ
+  count : ℕ
+  question : Question
+  says : Answer
+
+abbrev line : List ℕ → List ℕ → ℕ → Question → Answer → Line
+line doc table count question says = record { doc = doc; table = table; count = count; question = question; says = says }
+
+abbrev lines : List Line
+lines =
+    -- 20: a cursor under 3; the header before it; 35 past the end
+    line (hex 3 0x464A01) [] 0 (kindAt 3) (refused 31 3) ∷
+    line (hex 4 0x464A0100) [] 0 (kindAt 2) (refused 20 2) ∷
+    line (hex 4 0x464A0100) [] 0 (kindAt 4) (refused 35 4) ∷
+    -- 21 and 22, each in its place
+    line (hex 5 0x464A010E00) [] 0 (elementAt 3 0) (refused 21 3) ∷
+    line (hex 4 0x464A01FE) [] 0 (elementAt 3 0) (refused 36 3) ∷
+    line (hex 5 0x464A011400) [] 0 (elementAt 3 9) (refused 35 3) ∷
+    line (hex 5 0x464A01A0FE) [] 0 (elementAt 3 2) (refused 22 3) ∷
+    line (hex 5 0x464A01A0FE) [] 0 (elementAt 3 1) (refused 36 4) ∷
+    line (hex 7 0x464A016F046102) [] 0 (memberAt 3 1) (refused 22 3) ∷
+    line (hex 4 0x464A019E) [] 0 (memberAt 3 0) (refused 21 3) ∷
+    line (hex 4 0x464A019E) [] 0 (firstMemberOf 3 []) (refused 21 3) ∷
+    line (hex 4 0x464A0100) [] 0 (numberAt 3) (refused 21 3) ∷
+    line (hex 4 0x464A0100) [] 0 (stringAt 3) (refused 21 3) ∷
+    -- the end
+    line (hex 7 0x464A016F046102) [] 0 (endAt 3) (placeIs 7) ∷
+    line (hex 12 0x464A010C000000000000F07F) [] 0 (endAt 3) (refused 43 3) ∷
+    line (hex 9 0x464A01700461005701) (5 ∷ 1 ∷ []) 1 (endAt 3) (placeIs 9) ∷
+    line (hex 9 0x464A01700461005701) [] 0 (endAt 3) (refused 38 7) ∷
+    line (hex 7 0x464A016F046100) (4 ∷ 1 ∷ 9 ∷ []) 2 (endAt 3) (placeIs 7) ∷
+    line (nested 32 (hex 1 0x9E)) [] 0 (endAt 3) (refused 41 35) ∷
+    line (nested 32 (hex 1 0x9E)) [] 0 (endAt 4) (placeIs 36) ∷
+    -- 38: index at the count, count over the room, pair outside the document
+    line (hex 6 0x464A016F5700) (4 ∷ 1 ∷ []) 0 (endAt 3) (refused 38 4) ∷
+    line (hex 6 0x464A016F5700) (4 ∷ 1 ∷ 9 ∷ []) 2 (endAt 3) (refused 38 4) ∷
+    line (hex 6 0x464A016F5700) (5 ∷ 2 ∷ []) 1 (endAt 3) (refused 38 4) ∷
+    line (hex 6 0x464A016F5700) (4 ∷ 1 ∷ 9 ∷ []) 1 (endAt 3) (placeIs 6) ∷
+    line (hex 6 0x464A016F5700) (6 ∷ 0 ∷ []) 1 (endAt 3) (placeIs 6) ∷
+    line (hex 6 0x464A016F5700) (4294967295 ∷ 2 ∷ []) 1 (memberAt 3 0) (refused 38 4) ∷
+    -- the kind
+    line (hex 4 0x464A0100) [] 0 (kindAt 3) (kindIs isNull) ∷
+    line (hex 4 0x464A0101) [] 0 (kindAt 3) (kindIs isFalse) ∷
+    line (hex 4 0x464A0102) [] 0 (kindAt 3) (kindIs isTrue) ∷
+    line (hex 4 0x464A010C) [] 0 (kindAt 3) (kindIs isNumber) ∷
+    line (hex 4 0x464A01BE) [] 0 (kindAt 3) (kindIs isNumber) ∷
+    line (hex 5 0x464A010DFF) [] 0 (kindAt 3) (kindIs (isString 255)) ∷
+    line (hex 4 0x464A016D) [] 0 (kindAt 3) (kindIs (isString 87)) ∷
+    line (hex 5 0x464A010E00) [] 0 (kindAt 3) (refused 35 3) ∷
+    line (hex 6 0x464A010EFFFF) [] 0 (kindAt 3) (kindIs (isString 65_535)) ∷
+    line (hex 8 0x464A0112FFFFFFFF) [] 0 (kindAt 3) (kindIs (isObject 4_294_967_295)) ∷
+    line (hex 4 0x464A01BD) [] 0 (kindAt 3) (kindIs (isArray 31)) ∷
+    line (hex 4 0x464A01FF) [] 0 (kindAt 3) (refused 36 3) ∷
+    -- the number
+    line (hex 4 0x464A01BE) [] 0 (numberAt 3) (bitsAre 190 18_446_744_073_709_551_584) ∷
+    line (hex 4 0x464A01DE) [] 0 (numberAt 3) (bitsAre 222 0) ∷
+    line (hex 4 0x464A01FD) [] 0 (numberAt 3) (bitsAre 253 31) ∷
+    line (hex 5 0x464A010380) [] 0 (numberAt 3) (bitsAre 3 18_446_744_073_709_551_488) ∷
+    line (hex 5 0x464A010480) [] 0 (numberAt 3) (bitsAre 4 128) ∷
+    line (hex 8 0x464A010B000080BF) [] 0 (numberAt 3) (bitsAre 11 3_212_836_864) ∷
+    line (hex 12 0x464A010AFFFFFFFFFFFFFFFF) [] 0 (numberAt 3) (bitsAre 10 18_446_744_073_709_551_615) ∷
+    line (hex 8 0x464A010B0000807F) [] 0 (numberAt 3) (refused 43 3) ∷
+    line (hex 5 0x464A010B00) [] 0 (numberAt 3) (refused 35 3) ∷
+    -- the string
+    line (hex 4 0x464A0116) [] 0 (stringAt 3) (spanIs 4 0) ∷
+    line (hex 5 0x464A011761) [] 0 (stringAt 3) (spanIs 4 1) ∷
+    line (hex 4 0x464A0118) [] 0 (stringAt 3) (refused 35 3) ∷
+    line (hex 5 0x464A010E00) [] 0 (stringAt 3) (refused 35 3) ∷
+    line (hex 5 0x464A011761) [] 0 (stringBytesAt 3) (bytesAre (97 ∷ [])) ∷
+    line (hex 4 0x464A0118) [] 0 (stringBytesAt 3) (bytesAre []) ∷
+    -- element i: the value sought is not read, those before it are walked
+    line (hex 5 0x464A019FFE) [] 0 (elementAt 3 0) (placeIs 4) ∷
+    line (hex 8 0x464A0115FFFFFFFF) [] 0 (elementAt 3 0) (placeIs 8) ∷
+    line (hex 14 0x464A01A00C000000000000F07F00) [] 0 (elementAt 3 0) (placeIs 4) ∷
+    line (hex 14 0x464A01A00C000000000000F07F00) [] 0 (elementAt 3 1) (refused 43 4) ∷
+    line (hex 8 0x464A01A06F570001) (5 ∷ 99 ∷ []) 1 (elementAt 3 1) (refused 38 5) ∷
+    line (hex 4 0x464A01A0 ++ replicate 31 0x9F ++ hex 2 0x9E00) [] 0 (elementAt 3 1) (refused 41 35) ∷
+    line (hex 4 0x464A01A0 ++ replicate 30 0x9F ++ hex 2 0x9E00) [] 0 (elementAt 3 1) (placeIs 35) ∷
+    -- member j: its own key is read
+    line (hex 7 0x464A016F046102) [] 0 (memberAt 3 0) (placesAre 4 6) ∷
+    line (hex 9 0x464A01700461005701) (5 ∷ 1 ∷ []) 1 (memberAt 3 1) (placesAre 7 8) ∷
+    line (hex 9 0x464A0170046100AB00) [] 0 (memberAt 3 0) (placesAre 4 6) ∷
+    line (hex 9 0x464A0170046100AB00) [] 0 (memberAt 3 1) (refused 38 7) ∷
+    line (hex 5 0x464A016FFF) [] 0 (memberAt 3 0) (refused 36 4) ∷
+    line (hex 6 0x464A016F0561) [] 0 (memberAt 3 0) (refused 35 4) ∷
+    -- the first member by key: behind the last key nothing is read
+    line (hex 6 0x464A016F0461) [] 0 (firstMemberOf 3 (97 ∷ [])) (placeIs 6) ∷
+    line (hex 6 0x464A016F0461) [] 0 (firstMemberOf 3 (98 ∷ [])) absent ∷
+    line (hex 7 0x464A016F0461FE) [] 0 (firstMemberOf 3 (98 ∷ [])) absent ∷
+    line (hex 10 0x464A01700461FE046200) [] 0 (firstMemberOf 3 (99 ∷ [])) (refused 36 6) ∷
+    line (hex 8 0x464A0170046100FE) [] 0 (firstMemberOf 3 (99 ∷ [])) (refused 38 7) ∷
+    line (hex 10 0x464A0170046100046101) [] 0 (firstMemberOf 3 (97 ∷ [])) (placeIs 6) ∷
+    line (hex 9 0x464A0170AB00046100) [] 0 (firstMemberOf 3 (97 ∷ [])) (refused 38 4) ∷
+    line (hex 8 0x464A0170046100FF) [] 0 (firstMemberOf 3 (97 ∷ [])) (placeIs 6) ∷
+    line (hex 8 0x464A0170046100FF) [] 0 (firstMemberOf 3 (98 ∷ [])) (refused 36 7) ∷
+    line (hex 4 0x464A016E) [] 0 (firstMemberOf 3 []) absent ∷
+    line (hex 9 0x464A01700461005701) (0 ∷ 2 ∷ []) 1 (firstMemberOf 3 (70 ∷ 74 ∷ [])) (placeIs 8) ∷
+    line (hex 6 0x464A016F5700) (6 ∷ 0 ∷ []) 1 (firstMemberOf 3 []) (placeIs 5) ∷
+    []
+
+pub questions-say : map (λ l. put (l .doc) (l .table) (l .count) (l .question)) lines ≡ map (λ l. l .says) lines
+unfolding follow _>>=_ need choose number finite byNumbers compareTexts formOf keyFormOf header byteAt payload lengthAt afterSecond afterFirst indexAt
+    inTurn member valueBy value roomOf opening textKey backKey readKeyBy readKey passKey endOf kindBy kind numberBy Questions.numberAt stringBy
+    Questions.stringAt arrayBy objectBy elementFrom Questions.elementAt memberFrom Questions.memberAt findFrom findIn firstMember
+questions-say = refl

@@ -1,0 +1,184 @@
+-- The lent key table: the check never passes more keys than there is room for, refused or not; so each key passed has its
+-- pair, and all other words keep what they held.
+use Prim.Native.Nat.{ℕ, zero, suc, _+_, _*_, _≤_, _<_}
+use mathlib.Core.Bool.{Bool, true, false}
+use mathlib.Core.List.{List, [], _∷_, _++_}
+use mathlib.Core.Path.{_≡_, refl}
+use native.Mathlib.Omega.{arith}
+use lib.Dec.{T, ltb, ltb→lt}
+use lib.ListN.{length, getD, length-append, length-drop}
+use Rattle.json.specs.Limits.{deepest}
+use Rattle.json.specs.Reading.{Outcome, halt, done, Reading, follow, _>>=_, need}
+use Rattle.fractured_json_rules.specs.ByteTables.{Len, tiny, behind, Form, fNull, fBool, fInt, fFloat, fTiny, fString, fObject, fArray, fReserved, formOf}
+use Rattle.fractured_json_rules.specs.ByteTables.{Index, inByte, spelled, KeyForm, immediate, backReference, globalIndex, kReserved, keyFormOf}
+use Rattle.fractured_json_rules.specs.Meaning.{noKey, Keys}
+use Rattle.fractured_json_rules.specs.Verdict.{header, byteAt, payload, lengthAt, Counted, afterSecond, afterFirst, indexAt, inTurn, member, valueBy}
+use Rattle.fractured_json_rules.specs.Verdict.{value, newKey, oldKey, checkKeyBy, checkKey, check, verdict}
+use Rattle.fractured_json_rules.specs.KeyTable.{roomOf, pairs, stored, keyOf}
+use Rattle.fractured_json_rules.specs.TreeOf.{keysOf}
+use Rattle.fractured_json_rules.proofs.Readers.{kept-is, keep-is}
+
+-- the keys passed, however a reading ends
+abbrev left : {A : Type 0} → Outcome Keys A → Keys
+left (halt number place ks) = ks
+left (done a ks) = ks
+
+module _ (room : ℕ) where
+  -- a reading that passes no more keys than there is room for
+  abbrev Keeps : {A : Type 0} → Reading Keys A → Type 0
+  Keeps m = (ks : Keys) → length ks ≤ room → length (left (m ks)) ≤ room
+
+  follows : {A B : Type 0} (r : Outcome Keys A) (f : A → Reading Keys B) → length (left r) ≤ room → ((a : A) → Keeps (f a)) → length (left (follow r f)) ≤ room
+  unfolding follow
+  follows (halt n p ks) f h k = h
+  follows (done a ks) f h k = k a ks h
+
+  keeps-then : {A B : Type 0} (m : Reading Keys A) (f : A → Reading Keys B) → Keeps m → ((a : A) → Keeps (f a)) → Keeps (m >>= f)
+  unfolding _>>=_
+  keeps-then m f h k ks i = follows (m ks) f (h ks i) k
+
+  keeps-need : (t : Bool) (n p : ℕ) → Keeps (need t n p)
+  unfolding need
+  keeps-need true n p ks h = h
+  keeps-need false n p ks h = h
+
+  -- a test, and what is known behind it
+  keeps-test : {B : Type 0} (t : Bool) (n p : ℕ) (f : Unit {0} → Reading Keys B) (ks : Keys) → length ks ≤ room → (T t → length (left (f tt ks)) ≤ room)
+      → length (left ((need t n p >>= f) ks)) ≤ room
+  unfolding _>>=_ follow need
+  keeps-test true n p f ks h k = k tt
+  keeps-test false n p f ks h k = h
+
+  -- the readers
+  module _ (doc : List ℕ) where
+    keeps-header : Keeps (header doc)
+    unfolding header
+    keeps-header =
+        keeps-then _ _ (keeps-need _ _ _) λ _. keeps-then _ _ (keeps-need _ _ _) λ _. keeps-then _ _ (keeps-need _ _ _) λ _. keeps-then _ _ (keeps-need _ _ _) λ _. keeps-need _ _ _
+
+    keeps-byte : (o p : ℕ) → Keeps (byteAt doc o p)
+    unfolding byteAt
+    keeps-byte o p = keeps-then _ _ (keeps-need _ _ _) (λ _ ks h. h)
+
+    keeps-payload : (o w : ℕ) → Keeps (payload doc o w)
+    unfolding payload
+    keeps-payload o w = keeps-then _ _ (keeps-need _ _ _) (λ _ ks h. h)
+
+    keeps-length : (o : ℕ) (x : Len) → Keeps (lengthAt doc o x)
+    unfolding lengthAt
+    keeps-length o (tiny n) ks h = h
+    keeps-length o (behind w) ks h = keeps-payload o _ ks h
+
+    keeps-second : (o b0 b1 : ℕ) (l : Bool) → Keeps (afterSecond doc o b0 b1 l)
+    unfolding afterSecond
+    keeps-second o b0 b1 true ks h = h
+    keeps-second o b0 b1 false ks h = keeps-then _ _ (keeps-byte _ _) (λ b2. keeps-then _ _ (keeps-need _ _ _) (λ _ kz i. i)) ks h
+
+    keeps-first : (o b0 : ℕ) (l : Bool) → Keeps (afterFirst doc o b0 l)
+    unfolding afterFirst
+    keeps-first o b0 true ks h = h
+    keeps-first o b0 false ks h = keeps-then _ _ (keeps-byte _ _) (λ b1. keeps-second o b0 b1 (ltb b1 128)) ks h
+
+    keeps-index : (o : ℕ) (x : Index) → Keeps (indexAt doc o x)
+    unfolding indexAt
+    keeps-index o (inByte n) ks h = h
+    keeps-index o spelled ks h = keeps-then _ _ (keeps-byte _ _) (λ b0. keeps-first o b0 (ltb b0 128)) ks h
+
+    -- the one place where a key is added
+    keeps-new : (o : ℕ) (n : Counted) → Keeps (newKey room doc o n)
+    unfolding newKey
+    keeps-new o n ks h =
+        keeps-test _ _ _ _ ks h λ _. rw (kept-is _ ks) (keeps-test _ _ _ _ ks h λ _. keeps-test _ _ _ _ ks h λ t.
+        let spare = ltb→lt (length ks) room t in rw (keep-is _ _ ks, length-append) (omega arith))
+
+    keeps-old : (o : ℕ) (n : Counted) → Keeps (oldKey o n)
+    unfolding oldKey
+    keeps-old o n ks h = rw (kept-is _ ks) (keeps-test _ _ _ _ ks h λ _. h)
+
+    keeps-key-by : (o : ℕ) (k : KeyForm) → Keeps (checkKeyBy room doc o k)
+    unfolding checkKeyBy
+    keeps-key-by o (immediate x) ks h = keeps-then _ _ (keeps-index o x) (λ n. keeps-new o n) ks h
+    keeps-key-by o (backReference x) ks h = keeps-then _ _ (keeps-index o x) (λ n. keeps-old o n) ks h
+    keeps-key-by o (globalIndex x) ks h = keeps-then _ _ (keeps-index o x) (λ n kz i. i) ks h
+    keeps-key-by o kReserved ks h = h
+
+    keeps-key : (o : ℕ) → Keeps (checkKey room doc o)
+    unfolding checkKey
+    keeps-key o = keeps-then _ _ (keeps-byte _ _) (λ b. keeps-key-by o (keyFormOf b))
+
+    keeps-turns : (thing : ℕ → Reading Keys ℕ) → ((o : ℕ) → Keeps (thing o)) → (n o : ℕ) → Keeps (inTurn thing n o)
+    unfolding inTurn
+    keeps-turns thing k zero o ks h = h
+    keeps-turns thing k (suc n) o ks h = keeps-then _ _ (k o) (λ next. keeps-turns thing k n next) ks h
+
+    keeps-member : (value : ℕ → Reading Keys ℕ) → ((o : ℕ) → Keeps (value o)) → (o : ℕ) → Keeps (member (checkKey room doc) value o)
+    unfolding member
+    keeps-member value k o = keeps-then _ _ (keeps-key o) (λ v. k v)
+
+    keeps-by : (o : ℕ) (array object : ℕ → ℕ → Reading Keys ℕ) → ((n at : ℕ) → Keeps (array n at)) → ((n at : ℕ) → Keeps (object n at))
+        → (f : Form) → Keeps (valueBy doc o array object f)
+    unfolding valueBy
+    keeps-by o array object ha ho fNull ks h = h
+    keeps-by o array object ha ho (fBool b) ks h = h
+    keeps-by o array object ha ho (fTiny b) ks h = h
+    keeps-by o array object ha ho (fInt s w) ks h = keeps-then _ _ (keeps-payload o _) (λ _ kz i. i) ks h
+    keeps-by o array object ha ho (fFloat f w) ks h = keeps-then _ _ (keeps-payload o _) (λ bits. keeps-then _ _ (keeps-need _ _ _) (λ _ kz i. i)) ks h
+    keeps-by o array object ha ho (fString x) ks h = keeps-then _ _ (keeps-length o x) (λ n. keeps-then _ _ (keeps-need _ _ _) (λ _ kz i. i)) ks h
+    keeps-by o array object ha ho (fObject x) ks h = keeps-then _ _ (keeps-length o x) (λ n. ho n _) ks h
+    keeps-by o array object ha ho (fArray x) ks h = keeps-then _ _ (keeps-length o x) (λ n. ha n _) ks h
+    keeps-by o array object ha ho fReserved ks h = h
+
+    keeps-value : (l o : ℕ) → Keeps (value (checkKey room doc) l doc o)
+    unfolding value
+    keeps-value zero o = keeps-then _ _ (keeps-byte _ _) (λ b. keeps-by o _ _ (λ n at ks h. h) (λ n at ks h. h) (formOf b))
+    keeps-value (suc l) o =
+        keeps-then _ _ (keeps-byte _ _) (λ b. keeps-by o _ _ (keeps-turns _ (keeps-value l)) (keeps-turns _ (keeps-member _ (keeps-value l))) (formOf b))
+
+    keeps-check : Keeps (check room doc)
+    unfolding check
+    keeps-check = keeps-then _ _ keeps-header λ _. keeps-then _ _ (keeps-value deepest 3) λ past. keeps-need _ _ _
+
+left-keys : (r : Outcome Keys (Unit {0})) → left r ≡ keysOf r
+left-keys (halt n p ks) = refl
+left-keys (done u ks) = refl
+
+-- the keys passed are at most the room, refused or not
+pub passed-room : (room : ℕ) (doc : List ℕ) → length (keysOf (verdict room doc)) ≤ room
+passed-room room doc = rw (← left-keys (verdict room doc)) (keeps-check room doc [] (omega arith))
+
+-- ---- the words afterwards
+
+pub room-words : (words : List ℕ) (n : ℕ) → n ≤ roomOf words → 2 * n ≤ length words
+unfolding roomOf
+room-words words n h = omega arith
+
+pairs-length : (ks : Keys) → length (pairs ks) ≡ 2 * length ks
+pairs-length [] = refl
+pairs-length (k ∷ ks) = let r = pairs-length ks in omega arith
+
+pub stored-length : (ks : Keys) (words : List ℕ) → 2 * length ks ≤ length words → length (stored ks words) ≡ length words
+unfolding stored
+stored-length ks words h = rw (length-append, pairs-length ks, length-drop) (omega arith)
+
+pair-at : (ks : Keys) (rest : List ℕ) (j : ℕ) → j < length ks → keyOf (pairs ks ++ rest) j ≡ getD ks j noKey
+pair-at [] rest j h = absurd (omega arith)
+pair-at (k ∷ ks) rest zero h = refl
+pair-at (k ∷ ks) rest (suc j) h =
+    let a : 2 * suc j ≡ suc (suc (2 * j)) = omega arith in
+    let b : suc (suc (2 * j)) + 1 ≡ suc (suc (2 * j + 1)) = omega arith in
+    rw (a, b) (pair-at ks rest j (omega arith))
+
+pub stored-pair : (ks : Keys) (words : List ℕ) (j : ℕ) → j < length ks → keyOf (stored ks words) j ≡ getD ks j noKey
+unfolding stored
+stored-pair ks words j h = pair-at ks _ j h
+
+pub stored-other : (ks : Keys) (words : List ℕ) (i : ℕ) → 2 * length ks ≤ length words → 2 * length ks ≤ i → getD (stored ks words) i 0 ≡ getD words i 0
+unfolding stored
+stored-other [] words i h k = refl
+stored-other (x ∷ ks) [] i h k = absurd (omega arith)
+stored-other (x ∷ ks) (a ∷ []) i h k = absurd (omega arith)
+stored-other (x ∷ ks) (a ∷ b ∷ words) zero h k = absurd (omega arith)
+stored-other (x ∷ ks) (a ∷ b ∷ words) (suc zero) h k = absurd (omega arith)
+stored-other (x ∷ ks) (a ∷ b ∷ words) (suc (suc i)) h k =
+    let e : 2 * suc (length ks) ≡ suc (suc (2 * length ks)) = omega arith in
+    rw e (stored-other ks words i (omega arith) (omega arith))

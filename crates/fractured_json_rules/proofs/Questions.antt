@@ -1,0 +1,137 @@
+-- The questions that read only a value's own bytes: its kind, its number and its string; and the wrong kind, which is 21.
+use Prim.Native.Nat.{ℕ, _+_, _≤_, _<_}
+use mathlib.Core.Bool.{Bool, true, false}
+use mathlib.Core.List.{List}
+use mathlib.Core.Logic.{_≢_}
+use mathlib.Core.Path.{_≡_, refl, sym, _∙_}
+use native.Mathlib.Omega.{arith}
+use lib.Dec.{le→leb}
+use lib.ListN.{length, getD, length-take, length-drop}
+use Rattle.json.specs.Bytes.{Bytes, number, part}
+use Rattle.json.specs.Reading.{Reading, _>>=_, ask, answers, refuses}
+use Rattle.json.specs.Span.{Span}
+use Rattle.json.specs.Tree.{Tree, null, bool, num, str, arr, obj, Trees, Members, size, sizem, NoNumber, NoString, NoArray, NoObject}
+use Rattle.json.proofs.Bytes.{number-small}
+use Rattle.json.proofs.Reading.{then, pass, need-yes}
+use Rattle.fractured_json_rules.specs.ByteTables.{bytes, formOf}
+use Rattle.fractured_json_rules.specs.Meaning.{behindLength, NumberIs, asTiny, asInt, asFloat, Keys, ValueIs}
+use Rattle.fractured_json_rules.specs.Verdict.{byteAt}
+use Rattle.fractured_json_rules.specs.Questions.{opening, kindBy, Bits, extended, tinyBits, numberBy, stringBy, arrayBy, objectBy}
+use Rattle.fractured_json_rules.specs.Answers.{kindOf, valueBy, valueOf}
+use Rattle.fractured_json_rules.proofs.Nodes.{value-form}
+use Rattle.fractured_json_rules.proofs.Numbers.{int-value, tiny-value, tiny-byte}
+use Rattle.fractured_json_rules.proofs.Readers.{Opens, header-is, byte-is, payload-is, length-is}
+
+module _ (doc : List ℕ) where
+  value-inside : (u : Tree) (o : ℕ) (ks : Keys) (e : ℕ) (kz : Keys) → ValueIs doc u o ks e kz → o < length doc
+  value-inside null o ks e kz h = h .0 .inside
+  value-inside (bool b) o ks e kz h = h .0 .inside
+  value-inside (num s m) o ks e kz h = number-inside (h .0)
+    where
+      number-inside : {e : ℕ} → NumberIs doc (num s m) o e → o < length doc
+      number-inside (asTiny b st p q) = st .inside
+      number-inside (asInt g w st i p q) = st .inside
+      number-inside (asFloat f w st i n p q) = st .inside
+  value-inside (str t) o ks e kz h = h .2 .inside
+  value-inside (arr ts) o ks e kz h = h .1 .inside
+  value-inside (obj ms) o ks e kz h = h .1 .inside
+
+  pub opening-is : Opens doc → (o : ℕ) → 3 ≤ o → ask (opening doc o) ≡ answers tt
+  unfolding opening
+  opening-is h o b = then _ _ tt (header-is doc tt h) ∙ need-yes _ _ _ tt (le→leb _ _ b)
+
+  -- every question but the end begins so
+  pub asked : Opens doc → {A : Type 0} (o : ℕ) (by : ℕ → Reading (Unit {0}) A) (u : Tree) (ks : Keys) (e : ℕ) (kz : Keys) → 3 ≤ o → ValueIs doc u o ks e kz
+      → ask (opening doc o >>= λ _. byteAt doc o o >>= by) ≡ ask (by (getD doc o 0))
+  asked h o by u ks e kz b v = then _ _ tt (opening-is h o b) ∙ then _ _ tt (byte-is doc o o tt (value-inside u o ks e kz v))
+
+  -- ---- its kind
+
+  number-kind : (s : Bool) (m o e : ℕ) → NumberIs doc (num s m) o e → ask (kindBy doc o (formOf (getD doc o 0))) ≡ answers (kindOf (num s m))
+  unfolding kindBy kindOf
+  number-kind s m o e (asTiny b st p q) = rw (st .form-is)
+  number-kind s m o e (asInt g w st i p q) = rw (st .form-is)
+  number-kind s m o e (asFloat f w st i n p q) = rw (st .form-is)
+
+  pub kind-is : (u : Tree) (o : ℕ) (ks : Keys) (e : ℕ) (kz : Keys) → ValueIs doc u o ks e kz → ask (kindBy doc o (formOf (getD doc o 0))) ≡ answers (kindOf u)
+  unfolding kindBy kindOf
+  kind-is null o ks e kz h = rw (h .0 .form-is)
+  kind-is (bool false) o ks e kz h = rw (h .0 .form-is)
+  kind-is (bool true) o ks e kz h = rw (h .0 .form-is)
+  kind-is (num s m) o ks e kz h = number-kind s m o e (h .0)
+  kind-is (str t) o ks e kz h =
+      let fits = h .4 .inside in
+      let len : length t ≡ h .1 = rw (h .4 .same, length-take, length-drop) (omega arith) in
+      rw (h .2 .form-is, len) (then _ _ tt (length-is doc o (h .0) (h .1) tt (h .3)))
+  kind-is (arr ts) o ks e kz h = rw (h .1 .form-is) (then _ _ tt (length-is doc o (h .0) (size ts) tt (h .2)))
+  kind-is (obj ms) o ks e kz h = rw (h .1 .form-is) (then _ _ tt (length-is doc o (h .0) (sizem ms) tt (h .2)))
+
+  -- ---- its number
+
+  pub number-is : Bytes doc → (s : Bool) (m o e : ℕ) → NumberIs doc (num s m) o e
+      → (b : Bits) × (ask (numberBy doc o (getD doc o 0) (formOf (getD doc o 0))) ≡ answers b) × (valueOf b ≡ num s m)
+  unfolding numberBy valueBy
+  number-is bs s m o e (asTiny b st p q) =
+      let same = tiny-byte (getD doc o 0) b (st .form-is) in
+      let small = bs o in
+      (record { type = getD doc o 0; bits = tinyBits b }, rw (st .form-is), rw (st .form-is) (tiny-value b (omega arith) ∙ sym p))
+  number-is bs s m o e (asInt true w st i p q) =
+      let n = number doc (o + 1) (bytes w) in (
+        record { type = getD doc o 0; bits = extended true w n },
+        rw (st .form-is) (then _ _ tt (payload-is doc o (bytes w) tt i)),
+        rw (st .form-is) (int-value w n (number-small doc bs (o + 1) (bytes w)) ∙ sym p),
+      )
+  number-is bs s m o e (asInt false w st i p q) =
+      (record { type = getD doc o 0; bits = number doc (o + 1) (bytes w) }, rw (st .form-is) (then _ _ tt (payload-is doc o (bytes w) tt i)), rw (st .form-is) (sym p))
+  number-is bs s m o e (asFloat f w st i n p q) =
+      (record { type = getD doc o 0; bits = number doc (o + 1) (bytes w) }, rw (st .form-is) (then _ _ tt (payload-is doc o (bytes w) tt i) ∙ pass _ _ _ _ tt n), rw (st .form-is) (sym p))
+
+  -- ---- its string
+
+  pub string-is : (t : List ℕ) (o : ℕ) (ks : Keys) (e : ℕ) (kz : Keys) → ValueIs doc (str t) o ks e kz
+      → (s : Span) × (ask (stringBy doc o (formOf (getD doc o 0))) ≡ answers s) × (part doc (s .place) (s .len) ≡ t)
+  unfolding stringBy
+  string-is t o ks e kz h = (
+    record { place = behindLength o (h .0); len = h .1 },
+    rw (h .2 .form-is) (then _ _ tt (length-is doc o (h .0) (h .1) tt (h .3)) ∙ pass _ _ _ _ tt (le→leb _ _ (h .4 .inside))),
+    sym (h .4 .same),
+  )
+
+  -- ---- the wrong kind
+
+  module _ (u : Tree) (o : ℕ) (ks : Keys) (e : ℕ) (kz : Keys) (v : ValueIs doc u o ks e kz) where
+    pub no-number : NoNumber u → ask (numberBy doc o (getD doc o 0) (formOf (getD doc o 0))) ≡ refuses 21 o
+    unfolding numberBy
+    no-number n =
+        value-form doc (λ f. ask (numberBy doc o (getD doc o 0) f) ≡ refuses 21 o) u o ks e kz v
+        (λ _. refl) (λ b _. refl) (λ s m q. absurd (n s m q)) (λ t x _. refl) (λ ts x _. refl) (λ ms x _. refl)
+
+    pub no-string : NoString u → ask (stringBy doc o (formOf (getD doc o 0))) ≡ refuses 21 o
+    unfolding stringBy
+    no-string n =
+        value-form doc (λ f. ask (stringBy doc o f) ≡ refuses 21 o) u o ks e kz v
+        (λ _. refl) (λ b _. refl) (λ s m _. (λ b. refl, λ g w. refl, λ f w. refl)) (λ t x q. absurd (n t q)) (λ ts x _. refl) (λ ms x _. refl)
+
+    pub no-array : {A : Type 0} (rest : ℕ → ℕ → Reading (Unit {0}) A) → NoArray u → ask (arrayBy doc o rest (formOf (getD doc o 0))) ≡ refuses 21 o
+    unfolding arrayBy
+    no-array rest n =
+        value-form doc (λ f. ask (arrayBy doc o rest f) ≡ refuses 21 o) u o ks e kz v
+        (λ _. refl) (λ b _. refl) (λ s m _. (λ b. refl, λ g w. refl, λ f w. refl)) (λ t x _. refl) (λ ts x q. absurd (n ts q)) (λ ms x _. refl)
+
+    pub no-object : {A : Type 0} (rest : ℕ → ℕ → Reading (Unit {0}) A) → NoObject u → ask (objectBy doc o rest (formOf (getD doc o 0))) ≡ refuses 21 o
+    unfolding objectBy
+    no-object rest n =
+        value-form doc (λ f. ask (objectBy doc o rest f) ≡ refuses 21 o) u o ks e kz v
+        (λ _. refl) (λ b _. refl) (λ s m _. (λ b. refl, λ g w. refl, λ f w. refl)) (λ t x _. refl) (λ ts x _. refl) (λ ms x q. absurd (n ms q))
+
+  -- ---- the length of an array and of an object
+
+  pub array-is : {A : Type 0} (rest : ℕ → ℕ → Reading (Unit {0}) A) (ts : Trees) (o : ℕ) (ks : Keys) (e : ℕ) (kz : Keys) (v : ValueIs doc (arr ts) o ks e kz)
+      → ask (arrayBy doc o rest (formOf (getD doc o 0))) ≡ ask (rest (size ts) (behindLength o (v .0)))
+  unfolding arrayBy
+  array-is rest ts o ks e kz v = rw (v .1 .form-is) (then _ _ tt (length-is doc o (v .0) (size ts) tt (v .2)))
+
+  pub object-is : {A : Type 0} (rest : ℕ → ℕ → Reading (Unit {0}) A) (ms : Members) (o : ℕ) (ks : Keys) (e : ℕ) (kz : Keys) (v : ValueIs doc (obj ms) o ks e kz)
+      → ask (objectBy doc o rest (formOf (getD doc o 0))) ≡ ask (rest (sizem ms) (behindLength o (v .0)))
+  unfolding objectBy
+  object-is rest ms o ks e kz v = rw (v .1 .form-is) (then _ _ tt (length-is doc o (v .0) (sizem ms) tt (v .2)))

@@ -1,0 +1,165 @@
+-- The readers of bytes, payloads, lengths and key numbers, for whatever a reading keeps: where a chain that begins with one
+-- is done, the document holds what the meaning asks for; and where it does, the reader answers it and keeps what it kept.
+use Prim.Native.Nat.{ℕ, _+_, _≤_, _<_}
+use mathlib.Core.Bool.{Bool, true, false, not}
+use mathlib.Core.List.{List}
+use mathlib.Core.Path.{_≡_, refl, sym, _∙_}
+use native.Mathlib.Omega.{arith}
+use lib.Dec.{T, ltb, leb, leb→le, ltb→lt, nltb→le, le→leb, lt→ltb, eqb→eq}
+use lib.ListN.{length, getD}
+use Rattle.json.specs.Bytes.{number}
+use Rattle.json.specs.Limits.{leastFractured, longest}
+use Rattle.json.specs.Reading.{Reading, done, answer, kept, keep, _>>=_, follow, need}
+use Rattle.json.proofs.Reading.{halt≢done, done-kept, passed, then, pass, need-yes, assoc}
+use Rattle.fractured_json_rules.specs.ByteTables.{bytes, Len, tiny, behind, Index, inByte, spelled}
+use Rattle.fractured_json_rules.specs.Meaning.{LengthIs, Spelled, oneByte, twoBytes, threeBytes, IndexIs}
+use Rattle.fractured_json_rules.specs.Verdict.{header, byteAt, payload, lengthAt, Counted, counted, afterSecond, afterFirst, indexAt}
+
+-- ---- what is kept, read and replaced at the head of a chain
+
+pub kept-is : {S B : Type 0} (f : S → Reading S B) (s : S) → (kept >>= f) s ≡ f s s
+unfolding _>>=_ follow
+kept-is f s = refl
+
+pub keep-is : {S B : Type 0} (x : S) (f : Unit {0} → Reading S B) (s : S) → (keep x >>= f) s ≡ f tt x
+unfolding _>>=_ follow
+keep-is x f s = refl
+
+-- ---- a chain that is done
+
+-- a test before an answer, a chain of chains, and an answer at the head of a chain
+tested : {S A B : Type 0} (t : Bool) (n p : ℕ) (a : A) (f : A → Reading S B) (s : S) {b : B} {z : S} → ((need t n p >>= λ _. answer a) >>= f) s ≡ done b z
+    → T t × (f a s ≡ done b z)
+unfolding _>>=_ follow need
+tested true n p a f s e = (tt, e)
+tested false n p a f s e = absurd (halt≢done e)
+
+along : {S A B C : Type 0} (m : Reading S A) (f : A → Reading S B) (g : B → Reading S C) (s : S) {b : C} {z : S} → ((m >>= f) >>= g) s ≡ done b z
+    → (m >>= λ a. f a >>= g) s ≡ done b z
+along m f g s e = sym (assoc m f g s) ∙ e
+
+answered : {S A B : Type 0} (a : A) (f : A → Reading S B) (s : S) {b : B} {z : S} → (answer a >>= f) s ≡ done b z → f a s ≡ done b z
+unfolding _>>=_ follow
+answered a f s e = e
+
+-- a test at the end of a chain keeps what was kept
+pub last-test : {S : Type 0} (t : Bool) (n p : ℕ) (s : S) {u : Unit {0}} {z : S} → need t n p s ≡ done u z → T t × (s ≡ z)
+unfolding need
+last-test true n p s e = (tt, done-kept e)
+last-test false n p s e = absurd (halt≢done e)
+
+-- what 31 to 34 ask for
+pub record Opens (doc : List ℕ) : Type 0 where
+  pub long : leastFractured ≤ length doc
+  pub short : length doc ≤ longest
+  pub magic0 : getD doc 0 0 ≡ 0x46
+  pub magic1 : getD doc 1 0 ≡ 0x4A
+  pub config : getD doc 2 0 ≡ 0x01
+
+module _ {S B : Type 0} (doc : List ℕ) where
+  pub header-step : (f : Unit {0} → Reading S B) (s : S) {b : B} {z : S} → (header doc >>= f) s ≡ done b z → Opens doc × (f tt s ≡ done b z)
+  unfolding header
+  header-step f s e =
+      let s1 = passed _ _ _ _ s (along _ _ f s e) in
+      let s2 = passed _ _ _ _ s (along _ _ f s (s1 .rest)) in
+      let s3 = passed _ _ _ _ s (along _ _ f s (s2 .rest)) in
+      let s4 = passed _ _ _ _ s (along _ _ f s (s3 .rest)) in
+      let s5 = passed _ _ _ _ s (s4 .rest) in
+      (record { long = leb→le _ _ (s1 .test); short = leb→le _ _ (s2 .test); magic0 = eqb→eq _ _ (s3 .test); magic1 = eqb→eq _ _ (s4 .test); config = eqb→eq _ _ (s5 .test) }, s5 .rest)
+
+  pub byte-step : (o p : ℕ) (f : ℕ → Reading S B) (s : S) {b : B} {z : S} → (byteAt doc o p >>= f) s ≡ done b z
+      → (o < length doc) × (f (getD doc o 0) s ≡ done b z)
+  unfolding byteAt
+  byte-step o p f s e = let r = tested (ltb o (length doc)) _ _ (getD doc o 0) f s e in (ltb→lt _ _ (r .0), r .1)
+
+  pub payload-step : (o w : ℕ) (f : ℕ → Reading S B) (s : S) {b : B} {z : S} → (payload doc o w >>= f) s ≡ done b z
+      → (o + 1 + w ≤ length doc) × (f (number doc (o + 1) w) s ≡ done b z)
+  unfolding payload
+  payload-step o w f s e = let r = tested (leb (o + 1 + w) (length doc)) _ _ (number doc (o + 1) w) f s e in (leb→le _ _ (r .0), r .1)
+
+  pub length-step : (o : ℕ) (x : Len) (f : ℕ → Reading S B) (s : S) {b : B} {z : S} → (lengthAt doc o x >>= f) s ≡ done b z
+      → (n : ℕ) × LengthIs doc o x n × (f n s ≡ done b z)
+  unfolding lengthAt
+  length-step o (tiny n) f s e = (n, refl, answered n f s e)
+  length-step o (behind w) f s e = let r = payload-step o (bytes w) f s e in (number doc (o + 1) (bytes w), (r .0, refl), r .1)
+
+  second-step : (o : ℕ) (l : Bool) → (T l → getD doc (o + 2) 0 < 128) → (T (not l) → 128 ≤ getD doc (o + 2) 0) → o + 2 < length doc → 128 ≤ getD doc (o + 1) 0
+      → (f : Counted → Reading S B) (s : S) {b : B} {z : S} → (afterSecond doc o (getD doc (o + 1) 0) (getD doc (o + 2) 0) l >>= f) s ≡ done b z
+      → (n : ℕ) × (e : ℕ) × Spelled doc o n e × (f (counted n e) s ≡ done b z)
+  unfolding afterSecond
+  second-step o true p q i h f s e = (_, _, twoBytes i h (p tt) refl refl, answered _ f s e)
+  second-step o false p q i h f s e =
+      let r = byte-step (o + 3) o _ s (along _ _ f s e) in
+      let t = tested (leb (getD doc (o + 3) 0) 3) _ _ _ f s (r .1) in
+      (_, _, threeBytes (r .0) h (q tt) (leb→le _ _ (t .0)) refl refl, t .1)
+
+  first-step : (o : ℕ) (l : Bool) → (T l → getD doc (o + 1) 0 < 128) → (T (not l) → 128 ≤ getD doc (o + 1) 0) → o + 1 < length doc
+      → (f : Counted → Reading S B) (s : S) {b : B} {z : S} → (afterFirst doc o (getD doc (o + 1) 0) l >>= f) s ≡ done b z
+      → (n : ℕ) × (e : ℕ) × Spelled doc o n e × (f (counted n e) s ≡ done b z)
+  unfolding afterFirst
+  first-step o true p q i f s e = (_, _, oneByte i (p tt) refl refl, answered _ f s e)
+  first-step o false p q i f s e =
+      let r = byte-step (o + 2) o _ s (along _ _ f s e) in
+      second-step o (ltb (getD doc (o + 2) 0) 128) (ltb→lt _ _) (nltb→le _ _) (r .0) (q tt) f s (r .1)
+
+  pub index-step : (o : ℕ) (x : Index) (f : Counted → Reading S B) (s : S) {b : B} {z : S} → (indexAt doc o x >>= f) s ≡ done b z
+      → (n : ℕ) × (e : ℕ) × IndexIs doc o x n e × (f (counted n e) s ≡ done b z)
+  unfolding indexAt
+  index-step o (inByte n) f s e = (n, o + 1, (refl, refl), answered _ f s e)
+  index-step o spelled f s e =
+      let r = byte-step (o + 1) o _ s (along _ _ f s e) in
+      first-step o (ltb (getD doc (o + 1) 0) 128) (ltb→lt _ _) (nltb→le _ _) (r .0) f s (r .1)
+
+-- ---- what stands there is answered
+
+pub ltb-yes : (a b : ℕ) → a < b → ltb a b ≡ true
+ltb-yes a b h = go (ltb a b) (nltb→le a b)
+  where
+    go : (l : Bool) → (T (not l) → b ≤ a) → l ≡ true
+    go true n = refl
+    go false n = let m = n tt in absurd (omega arith)
+
+pub ltb-no : (a b : ℕ) → b ≤ a → ltb a b ≡ false
+ltb-no a b h = go (ltb a b) (ltb→lt a b)
+  where
+    go : (l : Bool) → (T l → a < b) → l ≡ false
+    go true n = let m = n tt in absurd (omega arith)
+    go false n = refl
+
+module _ {S : Type 0} (doc : List ℕ) where
+  pub header-is : (s : S) → Opens doc → header doc s ≡ done tt s
+  unfolding header
+  header-is s h =
+      pass _ _ _ _ s (le→leb _ _ (h .long)) ∙ (pass _ _ _ _ s (le→leb _ _ (h .short)) ∙ (pass _ _ _ _ s (rw (h .magic0) tt)
+      ∙ (pass _ _ _ _ s (rw (h .magic1) tt) ∙ need-yes _ _ _ s (rw (h .config) tt))))
+
+  pub byte-is : (o p : ℕ) (s : S) → o < length doc → byteAt doc o p s ≡ done (getD doc o 0) s
+  unfolding byteAt
+  byte-is o p s h = pass _ _ _ _ s (lt→ltb _ _ h)
+
+  pub payload-is : (o w : ℕ) (s : S) → o + 1 + w ≤ length doc → payload doc o w s ≡ done (number doc (o + 1) w) s
+  unfolding payload
+  payload-is o w s h = pass _ _ _ _ s (le→leb _ _ h)
+
+  pub length-is : (o : ℕ) (x : Len) (n : ℕ) (s : S) → LengthIs doc o x n → lengthAt doc o x s ≡ done n s
+  unfolding lengthAt
+  length-is o (tiny k) n s h = rw h
+  length-is o (behind w) n s h = rw (h .1) (payload-is o (bytes w) s (h .0))
+
+  spelled-is : (o n e : ℕ) (s : S) → Spelled doc o n e → indexAt doc o spelled s ≡ done (counted n e) s
+  unfolding indexAt afterFirst afterSecond
+  spelled-is o n e s (oneByte i b p q) =
+      then _ _ s (byte-is (o + 1) o s i) ∙ rw (ltb-yes _ _ b, p, q)
+  spelled-is o n e s (twoBytes i b0 b1 p q) =
+      let j : o + 1 < length doc = omega arith in
+      then _ _ s (byte-is (o + 1) o s j) ∙ rw (ltb-no _ _ b0) (then _ _ s (byte-is (o + 2) o s i) ∙ rw (ltb-yes _ _ b1, p, q))
+  spelled-is o n e s (threeBytes i b0 b1 b2 p q) =
+      let j : o + 1 < length doc = omega arith in
+      let k : o + 2 < length doc = omega arith in
+      then _ _ s (byte-is (o + 1) o s j) ∙ rw (ltb-no _ _ b0) (then _ _ s (byte-is (o + 2) o s k) ∙ rw (ltb-no _ _ b1)
+      (then _ _ s (byte-is (o + 3) o s i) ∙ rw (p, q) (pass _ _ _ _ s (le→leb _ _ b2))))
+
+  pub index-is : (o : ℕ) (x : Index) (n e : ℕ) (s : S) → IndexIs doc o x n e → indexAt doc o x s ≡ done (counted n e) s
+  unfolding indexAt
+  index-is o (inByte k) n e s h = rw (h .0, h .1)
+  index-is o spelled n e s h = spelled-is o n e s h
