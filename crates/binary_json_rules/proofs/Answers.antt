@@ -1,23 +1,20 @@
 -- Questions put to a container or an Entry of a good document are answered from the tree that it stands for.
-use mathlib.Core.Path.{_≡_, refl, sym, ap, _∙_}
+use mathlib.Core.Path.{_≡_, refl, sym, _∙_}
 use mathlib.Core.Bool.{Bool, true, false}
-use mathlib.Core.List.{List, []}
-use Prim.Native.Nat.{ℕ, zero, suc, _+_, _-_, _*_, _%_, _≤_, _<_}
+use mathlib.Core.List.{List}
+use Prim.Native.Nat.{ℕ, zero, suc, _+_, _-_, _*_, _≤_, _<_}
 use native.Mathlib.Omega.{arith}
 use native.Mathlib.Decide.{ℕ-discrete}
-use lib.Dec.{T, ltb, leb, eqb, le→leb, lt→ltb, ltb→lt}
+use lib.Dec.{ltb, leb, le→leb, lt→ltb, ltb→lt}
 use lib.ListN.{length}
-use Rattle.json.specs.Reading.{Outcome, done, halt, Reading, Asked, answer, ask, answers, refuses, _>>=_, need}
+use Rattle.json.specs.Reading.{Reading, answer, ask, answers, refuses, _>>=_, need}
 use Rattle.json.specs.Bytes.{number, part}
-use Rattle.json.specs.Number.{binary64, finite, floatTree}
-use Rattle.json.specs.Span.{Span, spanned}
+use Rattle.json.specs.Span.{Span}
 use Rattle.json.specs.Tree.{Tree, null, bool, num, str, arr, obj, Trees, Members, member, end, size, sizem, MemberIs, IsContainer, NoNumber, NoString, NoObject, NoContainer}
 use Rattle.json.proofs.Reading.{then, stops, pass, fail, need-yes}
 use Rattle.binary_json_rules.specs.Areas.{word, low, high, index, count, slot, text, content, numbers, Kind, kArray, kObject, kScalar, kOther, kindOf, EntryType, tFalse, tTrue, tNull, tString, tNumber, tContainer, tOther, typeOf}
-use Rattle.binary_json_rules.specs.Meaning.{SlotIs, NumberIs, Meta, EntryIs, MembersAre, ContainerIs, SlotGood, Means}
-use Rattle.binary_json_rules.specs.Verdict.{slotNamed, numberNamed}
-use Rattle.binary_json_rules.specs.TreeOf.{slotAt}
-use Rattle.binary_json_rules.specs.Questions.{opening, treeWord, body, bodyBy, Sized, kindAndSize, elementsBy, element, membersBy, object, MemberAt, keyEntryOf, entryOf, memberAt, slotRead, textNamed, slotText, slotBytes, typeBy, entryType, isContainer, isString, isNumber, containerAt, stringAt, stringBytes, numberAt}
+use Rattle.binary_json_rules.specs.Meaning.{SlotIs, Meta, EntryIs, MembersAre, ContainerIs, Means}
+use Rattle.binary_json_rules.specs.Questions.{opening, treeWord, body, bodyBy, kindAndSize, elementsBy, element, membersBy, object, keyEntryOf, entryOf, memberAt, slotRead, textNamed, slotText, slotBytes, typeBy, entryType, isContainer, isString, isNumber, containerAt, stringAt, numberAt}
 use Rattle.binary_json_rules.specs.Answers.{sized, sizedAs, typedAs}
 use Rattle.binary_json_rules.proofs.Complete.{eq→eqb, slot-named, number-named, header-done}
 use Rattle.binary_json_rules.proofs.Trees.{slot-at}

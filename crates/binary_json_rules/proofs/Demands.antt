@@ -2,26 +2,25 @@
 -- every question are total functions of all bytes, cursors and keys, and the reader is proved equal to them.
 use mathlib.Core.Path.{_≡_, refl, sym, ap, _∙_}
 use mathlib.Core.Logic.{_↔_}
-use mathlib.Core.Bool.{Bool, true, false}
+use mathlib.Core.Bool.{Bool}
 use mathlib.Core.List.{List, []}
-use Prim.Native.Nat.{ℕ, zero, suc, _+_, _*_, _≤_, _<_}
+use Prim.Native.Nat.{ℕ, _+_, _*_, _≤_, _<_}
 use native.Mathlib.Omega.{arith}
-use Rattle.json.specs.Reading.{Outcome, ask, answers, refuses}
+use Rattle.json.specs.Reading.{ask, answers, refuses}
 use Rattle.json.specs.Bytes.{number, part}
-use Rattle.json.specs.Number.{binary64, finite, floatTree}
+use Rattle.json.specs.Number.{binary64, floatTree}
 use Rattle.json.specs.Span.{Span}
 use Rattle.json.specs.Texts.{compareNumbers}
-use Rattle.json.specs.Tree.{Tree, null, bool, num, str, arr, obj, Trees, Members, size, sizem, ElementIs, MemberIs, Lacks, IsContainer, NoNumber, NoString, NoObject, NoContainer, Subtree}
-use Rattle.json.proofs.Tree.{element-at, member-at}
+use Rattle.json.specs.Tree.{Tree, num, str, arr, obj, Trees, Members, size, sizem, ElementIs, MemberIs, Lacks, IsContainer, NoNumber, NoString, NoObject, NoContainer, Subtree}
 use Rattle.json.proofs.Reading.{stops}
-use Rattle.binary_json_rules.specs.Areas.{word, low, high, index, count, slot, content, tContainer, typeOf}
-use Rattle.binary_json_rules.specs.Meaning.{SlotIs, EntryIs, ContainerIs, Means}
+use Rattle.binary_json_rules.specs.Areas.{word, high, count, slot, content}
+use Rattle.binary_json_rules.specs.Meaning.{EntryIs, ContainerIs, Means}
 use Rattle.binary_json_rules.specs.Verdict.{verdict}
 use Rattle.binary_json_rules.specs.TreeOf.{treeOf}
 use Rattle.binary_json_rules.specs.Leads.{EntryOf, Leads, named}
-use Rattle.binary_json_rules.specs.Questions.{kindAndSize, element, MemberAt, keyEntryOf, entryOf, memberAt, slotText, slotBytes, entryType, containerAt, stringAt, stringBytes, numberAt}
+use Rattle.binary_json_rules.specs.Questions.{kindAndSize, element, keyEntryOf, entryOf, memberAt, slotText, slotBytes, entryType, containerAt, stringAt, stringBytes, numberAt}
 use Rattle.binary_json_rules.specs.Halving.{digits, turnsOf, Halved, found, missed, broken}
-use Rattle.binary_json_rules.specs.Lookup.{Found, entry, absent, keyItem, keys, Counted, counted, quickLookup, contentItem, textHalving, keyTurns, plainScan}
+use Rattle.binary_json_rules.specs.Lookup.{Found, entry, absent, keyItem, keys, counted, quickLookup, contentItem, textHalving, keyTurns, plainScan}
 use Rattle.binary_json_rules.specs.Answers.{sizedAs, typedAs}
 use Rattle.binary_json_rules.proofs.Sound.{sound}
 use Rattle.binary_json_rules.proofs.Complete.{complete}

@@ -1,7 +1,6 @@
 -- Examples that hold each number and place of refusal, and each question's answers, to what document 01 says. They are
 -- computed from the definitions, so that no rule can be changed unnoticed where the theorems leave its number or place open.
-use Prim.Native.Nat.{ℕ, zero, suc, _+_, _-_, _*_, _/_, _%_, _^_, _≤_, _<_}
-use mathlib.Core.Bool.{true, false}
+use Prim.Native.Nat.{ℕ, _<_}
 use mathlib.Core.List.{List, [], _∷_, map}
 use mathlib.Core.Path.{_≡_, refl, _∙_}
 use native.Mathlib.Omega.{arith}
@@ -18,7 +17,7 @@ use Rattle.binary_json_rules.specs.Areas.{index, count, slot, text, cont
 use Rattle.binary_json_rules.specs.Verdict.{header, ascends, slotRules, slots, slotNamed, numberNamed, keyEntries, entryBy, entry, entries, containerBy, container, scalar, rootBy, check, verdict}
 use Rattle.binary_json_rules.specs.Questions.{opening, treeWord, body, bodyBy, kindAndSize, elementsBy, element, membersBy, object, memberAt, slotRead, textNamed, slotText, typeBy, entryType, isContainer, isString, isNumber, containerAt, stringAt, numberAt}
 use Rattle.binary_json_rules.specs.Halving.{turn, halveIf, halveFrom, halve}
-use Rattle.binary_json_rules.specs.Lookup.{Found, absent, counted, afterKeys, afterStrings, quickLookup, scanFrom, plainScan}
+use Rattle.binary_json_rules.specs.Lookup.{absent, counted, afterKeys, afterStrings, quickLookup, scanFrom, plainScan}
 use Rattle.binary_json_rules.specs.Lookup as Lookup
 use Rattle.binary_json_rules.specs.Answers.{sized}
 

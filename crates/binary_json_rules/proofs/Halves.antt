@@ -1,6 +1,6 @@
 -- Halving over sorted items finds the equal one, or the position before which it would stand; and it takes at most as many
 -- turns as the number of items has binary digits.
-use mathlib.Core.Path.{_≡_, refl, sym, ap, _∙_}
+use mathlib.Core.Path.{_≡_, refl, sym, _∙_}
 use mathlib.Core.Logic.{_⊎_, inl, inr}
 use mathlib.Core.Bool.{Bool, true, false, not}
 use Prim.Native.Nat.{ℕ, zero, suc, _+_, _-_, _*_, _/_, _^_, _≤_, _<_}
@@ -10,7 +10,7 @@ use native.Mathlib.Decide.{ℕ-discrete}
 use lib.Dec.{T, ltb, ltb→lt, nltb→le}
 use Rattle.json.specs.declared.Order.{Order}
 use Rattle.json.specs.declared.Order.the-variants.{Below, Equal, Above}
-use Rattle.json.proofs.Texts.{below≢equal, below≢above, equal≢above}
+use Rattle.json.proofs.Texts.{below≢above}
 use Rattle.binary_json_rules.specs.Halving.{Item, compares, unreadable, Halved, found, missed, broken, middle, turn, halveIf, halveFrom, halve, digitsIn, digits, turnsOf}
 
 pub compares-inj : {o p : Order} → compares o ≡ compares p → o ≡ p

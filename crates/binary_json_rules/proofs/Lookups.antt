@@ -1,30 +1,29 @@
 -- In an object of a good document, the quick lookup and the plain scan give the same answer, and it is the tree's.
 use mathlib.Core.Path.{_≡_, refl, sym, ap, _∙_, subst}
-use mathlib.Core.Logic.{_≢_, _⊎_, inl, inr}
+use mathlib.Core.Logic.{_⊎_, inl, inr}
 use mathlib.Core.Bool.{Bool, true, false, not}
 use mathlib.Core.List.{List}
-use Prim.Native.Nat.{ℕ, zero, suc, _+_, _-_, _*_, _≤_, _<_}
+use Prim.Native.Nat.{ℕ, zero, suc, _+_, _*_, _≤_, _<_}
 use native.Mathlib.Omega.{arith}
 use native.Mathlib.Decide.{ℕ-discrete}
 use lib.Dec.{T, ltb, ltb→lt, nltb→le}
 use Rattle.json.specs.Choose.{choose}
-use Rattle.json.specs.Reading.{Outcome, done, Reading, answer, ask, answers, _>>=_}
-use Rattle.json.specs.Bytes.{part}
+use Rattle.json.specs.Reading.{Outcome, answer, ask, answers, _>>=_}
 use Rattle.json.specs.Texts.{compareTexts, compareNumbers, isEqual}
 use Rattle.json.specs.declared.Order.{Order}
 use Rattle.json.specs.declared.Order.the-variants.{Below, Equal, Above}
 use Rattle.json.specs.Tree.{Tree, obj, Members, end, member, sizem, MemberIs, Lacks}
 use Rattle.json.proofs.Reading.{then}
-use Rattle.json.proofs.Texts.{below≢equal, below≢above, equal≢above, numbers-below, numbers-equal, numbers-above, texts-equal, texts-above, text-strict, text-cotrans, text-trans}
+use Rattle.json.proofs.Texts.{below≢equal, equal≢above, numbers-below, numbers-equal, numbers-above, texts-equal, texts-above, text-strict, text-cotrans, text-trans}
 use Rattle.json.proofs.Tree.{member-at, member-below}
-use Rattle.binary_json_rules.specs.Areas.{word, index, count, slot, content}
-use Rattle.binary_json_rules.specs.Meaning.{SlotIs, EntryIs, MembersAre, ContainerIs, Means}
-use Rattle.binary_json_rules.specs.Questions.{keyEntryOf, entryOf, slotRead, textNamed, object}
-use Rattle.binary_json_rules.specs.Halving.{Item, compares, Halved, found, missed, broken, halve, turnsOf, digits}
+use Rattle.binary_json_rules.specs.Areas.{word, count, slot, content}
+use Rattle.binary_json_rules.specs.Meaning.{SlotIs, MembersAre, ContainerIs, Means}
+use Rattle.binary_json_rules.specs.Questions.{keyEntryOf, entryOf}
+use Rattle.binary_json_rules.specs.Halving.{Item, compares, Halved, found, missed, broken, turnsOf}
 use Rattle.binary_json_rules.specs.Lookup.{Found, entry, absent, strings, keys, Counted, counted, afterKeys, afterStrings, quickLookup, contentItem, textHalving, keyItem, keyTurns, scanFrom, plainScan}
 use Rattle.binary_json_rules.proofs.Nodes.{Aligned}
 use Rattle.binary_json_rules.proofs.Answers.{key-slot, slot-read, text-named, span-content, object-answer}
-use Rattle.binary_json_rules.proofs.Halves.{compares-inj, Sorted, Ended, halving-ends, halving-same, halving-turns}
+use Rattle.binary_json_rules.proofs.Halves.{compares-inj, Sorted, Ended, halving-ends, halving-same}
 
 module _ (doc : List ℕ) (t : Tree) (m : Means doc t) where
   -- ---- the strings ascend

@@ -1,15 +1,14 @@
 -- The containers that the root of a good document leads to, and their Entries: each stands for one subtree of the
 -- document's tree, and each stands in the tree area, at a multiple of 4.
-use mathlib.Core.Path.{_≡_, refl, sym, ap, _∙_, subst}
+use mathlib.Core.Path.{_≡_, refl, sym, _∙_}
 use mathlib.Core.Bool.{true, false}
 use mathlib.Core.List.{List}
-use Prim.Native.Nat.{ℕ, zero, suc, _+_, _-_, _*_, _%_, _≤_, _<_, max}
+use Prim.Native.Nat.{ℕ, zero, suc, _+_, _*_, _%_, _≤_, _<_, max}
 use native.Mathlib.Omega.{arith}
 use Rattle.json.specs.Tree.{Tree, null, bool, num, str, arr, obj, Trees, none, more, Members, end, member, size, sizem, depth, ElementIs, MemberIs, NoContainer, Subtree, whole, element, value}
 use Rattle.json.proofs.Tree.{element-at, member-at}
-use Rattle.binary_json_rules.specs.Areas.{word, low, high, index, count, slot, content, Kind, kArray, kObject, kScalar, kOther, kindOf, EntryType, tFalse, tTrue, tNull, tString, tNumber, tContainer, tOther, typeOf}
-use Rattle.binary_json_rules.specs.Meaning.{SlotIs, Meta, EntryIs, EntriesAre, MembersAre, ContainerIs, Fills, FillsAll, FillsMembers, RootFills, Means}
-use Rattle.binary_json_rules.specs.TreeOf.{entryTree, containerTree}
+use Rattle.binary_json_rules.specs.Areas.{word, low, high, index, kArray, kObject, kScalar, tContainer, typeOf}
+use Rattle.binary_json_rules.specs.Meaning.{Meta, EntryIs, EntriesAre, MembersAre, ContainerIs, Fills, FillsAll, FillsMembers, RootFills, Means}
 use Rattle.binary_json_rules.specs.Leads.{EntryOf, ofArray, ofScalar, ofObject, Leads, root, named}
 use Rattle.binary_json_rules.proofs.Trees.{entry-tree, container-tree}
 

@@ -1,15 +1,14 @@
 -- What is accepted keeps the rules: a check that is done has found a tree, what each Entry stands for, and the order of
 -- the containers.
 use mathlib.Core.Path.{_≡_, refl, sym, ap, _∙_, subst}
-use mathlib.Core.Bool.{Bool, true, false}
+use mathlib.Core.Bool.{true, false}
 use mathlib.Core.List.{List}
-use Prim.Native.Nat.{ℕ, zero, suc, _+_, _-_, _*_, _/_, _%_, _≤_, _<_, max}
+use Prim.Native.Nat.{ℕ, zero, suc, _+_, _-_, _*_, _/_, _%_, _≤_, _<_}
 use native.Mathlib.Nat.{max-le}
 use native.Mathlib.Omega.{arith}
 use native.Mathlib.Decide.{ℕ-discrete}
-use lib.Dec.{T, ltb, leb, eqb, leb→le, ltb→lt, eqb→eq}
-use lib.ListN.{length, getD}
-use Rattle.json.specs.Reading.{Outcome, done, Reading, refuse, _>>=_, follow, need}
+use lib.Dec.{T, leb→le, ltb→lt, eqb→eq}
+use Rattle.json.specs.Reading.{done, Reading, refuse, _>>=_}
 use Rattle.json.specs.Bytes.{number}
 use Rattle.json.specs.Limits.{deepest}
 use Rattle.json.specs.Number.{binary64, finite, floatTree, negative, magnitude}
@@ -18,9 +17,9 @@ use Rattle.json.specs.declared.Order.{Order}
 use Rattle.json.specs.declared.Order.the-variants.{Below, Equal, Above}
 use Rattle.json.specs.Tree.{Tree, null, bool, num, str, arr, obj, Trees, none, more, Members, end, member, size, sizem, depth, depths, depthm}
 use Rattle.json.proofs.Reading.{halt≢done, done-answer, step, passed, need-done, assoc}
-use Rattle.binary_json_rules.specs.Areas.{word, low, high, index, count, slot, text, content, numbers, Kind, kArray, kObject, kScalar, kOther, kindOf, EntryType, tFalse, tTrue, tNull, tString, tNumber, tContainer, tOther, typeOf}
-use Rattle.binary_json_rules.specs.Meaning.{SlotIs, NumberIs, Meta, EntryIs, EntriesAre, MembersAre, ScalarIs, ContainerIs, Fills, FillsAll, FillsMembers, RootFills, SlotGood, Means}
-use Rattle.binary_json_rules.specs.Verdict.{header, ascends, slotRules, slots, slotNamed, numberNamed, keyEntries, entryBy, entry, entries, containerBy, container, scalar, rootBy, check, verdict}
+use Rattle.binary_json_rules.specs.Areas.{word, low, high, index, count, slot, content, numbers, Kind, kArray, kObject, kScalar, kOther, kindOf, EntryType, tFalse, tTrue, tNull, tString, tNumber, tContainer, tOther, typeOf}
+use Rattle.binary_json_rules.specs.Meaning.{SlotIs, NumberIs, Meta, EntryIs, EntriesAre, MembersAre, ContainerIs, Fills, FillsAll, FillsMembers, RootFills, SlotGood, Means}
+use Rattle.binary_json_rules.specs.Verdict.{header, ascends, slotRules, slots, slotNamed, numberNamed, keyEntries, entryBy, entry, entries, containerBy, container, scalar, rootBy, check}
 
 -- the container at o, which is an array or an object, stands for the tree, and its subtree ends at e
 abbrev pub BodyIs : List ℕ → Tree → ℕ → ℕ → Type 0

@@ -1,12 +1,12 @@
 -- An Entry and a container stand for one tree each: the one that is computed from the offsets they name.
-use mathlib.Core.Path.{_≡_, refl, sym, ap, _∙_}
+use mathlib.Core.Path.{_≡_, refl, sym, ap}
 use mathlib.Core.Bool.{true, false}
 use mathlib.Core.List.{List}
-use Prim.Native.Nat.{ℕ, zero, suc, _+_, _-_, _*_, _/_, _≤_, max}
+use Prim.Native.Nat.{ℕ, zero, suc, _+_, _≤_}
 use native.Mathlib.Omega.{arith}
 use Rattle.json.specs.Limits.{deepest}
 use Rattle.json.specs.Tree.{Tree, null, bool, num, str, arr, obj, Trees, none, more, Members, end, member, size, sizem, depth, depths, depthm}
-use Rattle.binary_json_rules.specs.Areas.{word, low, high, index, slot, content, kindOf, typeOf}
+use Rattle.binary_json_rules.specs.Areas.{word, slot}
 use Rattle.binary_json_rules.specs.Meaning.{SlotIs, EntryIs, EntriesAre, MembersAre, ScalarIs, ContainerIs, Means}
 use Rattle.binary_json_rules.specs.TreeOf.{slotAt, entryTreeBy, entryTree, entryTrees, memberTrees, containerTreeBy, containerTree, treeOf}
 

@@ -1,10 +1,10 @@
 -- The quick lookup and the plain scan of a key in an object: document 01, section "Questions". Quick lookup halves the C
 -- strings for the text. Not found is absent, with zero second comparisons. Found, it halves the n KeyEntries for that
 -- slot's offset, as numbers. The plain scan compares texts from member 0 and answers the first match's Entry.
-use Prim.Native.Nat.{ℕ, zero, suc, _+_, _*_}
+use Prim.Native.Nat.{ℕ, zero, suc, _+_}
 use mathlib.Core.List.{List}
 use Rattle.json.specs.Choose.{choose}
-use Rattle.json.specs.Reading.{Outcome, halt, done, Reading, Asked, answer, refuse, ask, answers, refuses, _>>=_, _>>_}
+use Rattle.json.specs.Reading.{halt, done, Reading, Asked, answer, refuse, ask, _>>=_, _>>_}
 use Rattle.json.specs.Bytes.{part}
 use Rattle.json.specs.Span.{Span}
 use Rattle.json.specs.Texts.{compareNumbers, compareTexts, isEqual}

@@ -1,8 +1,8 @@
 -- Which BinaryJson documents keep the rules of the format, and which tree each of them means: document 01, section
 -- "BinaryJson, laid out". This says what a good document is. It says nothing of the order in which a check looks at it, nor
 -- of numbers of refusal. What Entries stand for, and the order in which containers stand, are two separate definitions.
-use Prim.Native.Nat.{ℕ, zero, suc, _+_, _-_, _*_, _%_, _≤_, _<_}
-use mathlib.Core.Bool.{Bool, true, false}
+use Prim.Native.Nat.{ℕ, suc, _+_, _-_, _*_, _%_, _≤_, _<_}
+use mathlib.Core.Bool.{true, false}
 use mathlib.Core.List.{List}
 use mathlib.Core.Path.{_≡_}
 use lib.Dec.{T}

@@ -1,7 +1,7 @@
 -- The questions put to a BinaryJson document, fixed for all bytes and cursors: document 01, section "Questions". Each first
 -- applies 1 to 4, then 20 unless S+4+4C ≤ N ≤ length; from there on the place is the cursor. The order is: cursor word,
 -- kind, body, index, what is pointed to.
-use Prim.Native.Nat.{ℕ, zero, suc, _+_, _-_, _*_, _%_}
+use Prim.Native.Nat.{ℕ, suc, _+_, _-_, _*_, _%_}
 use mathlib.Core.List.{List}
 use lib.Dec.{ltb, leb, eqb}
 use lib.ListN.{length}

@@ -7,7 +7,7 @@ use Rattle.json.specs.Bytes.{number}
 use Rattle.json.specs.Limits.{deepest}
 use Rattle.json.specs.Number.{binary64, floatTree}
 use Rattle.json.specs.Tree.{Tree, null, bool, str, arr, obj, Trees, none, more, Members, end, member}
-use Rattle.binary_json_rules.specs.Areas.{word, low, high, index, slot, content, Kind, kArray, kObject, kScalar, kOther, kindOf, EntryType, tFalse, tTrue, tNull, tString, tNumber, tContainer, tOther, typeOf}
+use Rattle.binary_json_rules.specs.Areas.{word, low, high, slot, content, Kind, kArray, kObject, kScalar, kOther, kindOf, EntryType, tFalse, tTrue, tNull, tString, tNumber, tContainer, tOther, typeOf}
 
 -- the number of the slot at the offset v
 abbrev pub slotAt : List ℕ → ℕ → ℕ

@@ -2,11 +2,10 @@
 -- below it: 1 to 4; slots in turn, 5 before 6; 7; then containers from the root: 12, 8, all its KeyEntries, its Entries in
 -- turn, each child finished before the next Entry; 13 last. Each line `need TEST NUMBER PLACE` is one rule of the table.
 use Prim.Native.Nat.{ℕ, zero, suc, _+_, _-_, _*_, _%_}
-use mathlib.Core.Bool.{Bool, true, false}
+use mathlib.Core.Bool.{Bool, true}
 use mathlib.Core.List.{List}
 use lib.Dec.{ltb, leb, eqb}
 use lib.ListN.{length, getD}
-use Rattle.json.specs.Choose.{choose}
 use Rattle.json.specs.Reading.{Reading, Asked, answer, refuse, ask, _>>=_, _>>_, need}
 use Rattle.json.specs.Bytes.{number}
 use Rattle.json.specs.Limits.{leastBinary, longest, deepest}

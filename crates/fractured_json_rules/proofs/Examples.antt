@@ -1,6 +1,6 @@
 -- Small documents with what the check and the questions say of them: each number of refusal with its place and the pairs of
 -- the keys passed until then, and good answers of each question. 32 is shown for every document that is too long.
-use Prim.Native.Nat.{ℕ, zero, suc, _-_, _/_, _%_, _^_, _≤_, _<_}
+use Prim.Native.Nat.{ℕ, _-_, _/_, _≤_, _<_}
 use mathlib.Core.List.{List, [], _∷_, _++_, map}
 use mathlib.Core.Path.{_≡_, refl, _∙_}
 use native.Mathlib.Omega.{arith}

@@ -7,7 +7,7 @@ use native.Mathlib.Omega.{arith}
 use lib.ListN.{length, getD}
 use Rattle.json.specs.Limits.{deepest}
 use Rattle.json.specs.Number.{Float}
-use Rattle.json.specs.Tree.{Tree, null, bool, num, str, arr, obj, Trees, none, more, Members, end, member, depth, depths, depthm, size, sizem, ElementIs, MemberIs, Subtree}
+use Rattle.json.specs.Tree.{Tree, null, bool, num, str, arr, obj, Trees, none, more, Members, end, member, depths, depthm, size, sizem, ElementIs, MemberIs, Subtree}
 use Rattle.json.specs.Tree as Tree
 use Rattle.json.proofs.Tree.{element-at, member-at, subtree-depth}
 use Rattle.fractured_json_rules.specs.ByteTables.{Width, Len, tiny, behind, Index, inByte, spelled, Form, fNull, fBool, fInt, fFloat, fTiny, fString, fObject, fArray, formOf}

@@ -1,11 +1,11 @@
 -- What a tree says to the questions of document 01: its kind with the length of a string or container, and the exact value
 -- of a number that is answered by its type byte and 64 bits.
 use Prim.Native.Nat.{ℕ}
-use mathlib.Core.Bool.{Bool, true, false}
+use mathlib.Core.Bool.{true, false}
 use lib.ListN.{length}
 use Rattle.json.specs.Number.{floatTree, wholeTree, signedTree}
 use Rattle.json.specs.Tree.{Tree, null, bool, num, str, arr, obj, size, sizem}
-use Rattle.fractured_json_rules.specs.ByteTables.{Width, Form, fNull, fBool, fInt, fFloat, fTiny, fString, fObject, fArray, fReserved, formOf}
+use Rattle.fractured_json_rules.specs.ByteTables.{Form, fNull, fBool, fInt, fFloat, fTiny, fString, fObject, fArray, fReserved, formOf}
 use Rattle.fractured_json_rules.specs.Questions.{Kind, isNull, isFalse, isTrue, isNumber, isString, isObject, isArray, Bits}
 
 unfoldable pub kindOf : Tree → Kind

@@ -1,6 +1,6 @@
 -- What each type byte and each key byte of Fractured JSON stands for: the two tables of document 000, as document 01,
 -- section "FJ, laid out", reads them. proofs/ByteTables.antt holds both against lists laid out by ranges, all 256 bytes of each.
-use Prim.Native.Nat.{ℕ, _+_, _-_}
+use Prim.Native.Nat.{ℕ, _-_}
 use mathlib.Core.Bool.{Bool, true, false}
 use mathlib.Core.List.{List, [], _∷_}
 use lib.Dec.{ltb}

@@ -1,7 +1,7 @@
 -- Which values the root of a Fractured JSON document leads to, by the bytes alone: the root value at 3, and each element and
 -- each member's value of one it leads to. Element i stands behind the i values before it, a member behind the members
 -- before it, and its value behind its key.
-use Prim.Native.Nat.{ℕ, _+_, _<_}
+use Prim.Native.Nat.{ℕ, _<_}
 use mathlib.Core.List.{List, _++_}
 use mathlib.Core.Path.{_≡_}
 use lib.ListN.{getD}

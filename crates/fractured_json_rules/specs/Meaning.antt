@@ -2,7 +2,7 @@
 -- laid out". This says what a good document is, by recursion over its tree; it says nothing of the order in which a check
 -- reads it, nor of numbers of refusal. The immediate keys met so far are threaded through, since a back reference goes by
 -- their numbers. How many there may be is the key table's matter, and stands beside the meaning.
-use Prim.Native.Nat.{ℕ, zero, suc, _+_, _-_, _*_, _^_, _≤_, _<_}
+use Prim.Native.Nat.{ℕ, _+_, _-_, _*_, _≤_, _<_}
 use mathlib.Core.Bool.{Bool, true, false}
 use mathlib.Core.List.{List, [], _∷_, _++_}
 use mathlib.Core.Logic.{_≢_}

@@ -6,17 +6,17 @@
 use Prim.Native.Nat.{ℕ, zero, suc, _+_, _-_, _*_, _^_}
 use mathlib.Core.Bool.{Bool, true, false}
 use mathlib.Core.List.{List}
-use lib.Dec.{ltb, leb, eqb}
-use lib.ListN.{length, getD}
-use Rattle.json.specs.Bytes.{number, part}
+use lib.Dec.{ltb, leb}
+use lib.ListN.{length}
+use Rattle.json.specs.Bytes.{part}
 use Rattle.json.specs.Choose.{choose}
 use Rattle.json.specs.Limits.{deepest}
-use Rattle.json.specs.Number.{Float, finite}
+use Rattle.json.specs.Number.{finite}
 use Rattle.json.specs.Reading.{Reading, answer, refuse, ask, _>>=_, _>>_, need}
 use Rattle.json.specs.Span.{Span, spanned}
 use Rattle.json.specs.Texts.{compareTexts, isEqual}
-use Rattle.fractured_json_rules.specs.ByteTables.{Width, bytes, Len, tiny, behind, Form, fNull, fBool, fInt, fFloat, fTiny, fString, fObject, fArray, fReserved, formOf, Index, KeyForm, immediate, backReference, globalIndex, kReserved, keyFormOf}
-use Rattle.fractured_json_rules.specs.Meaning.{Key, keyText, behindLength}
+use Rattle.fractured_json_rules.specs.ByteTables.{Width, bytes, Form, fNull, fBool, fInt, fFloat, fTiny, fString, fObject, fArray, fReserved, formOf, KeyForm, immediate, backReference, globalIndex, kReserved, keyFormOf}
+use Rattle.fractured_json_rules.specs.Meaning.{keyText, behindLength}
 use Rattle.fractured_json_rules.specs.Verdict.{header, byteAt, payload, lengthAt, Counted, indexAt, inTurn, member, value}
 use Rattle.fractured_json_rules.specs.KeyTable.{roomOf, keyOf}
 

@@ -1,18 +1,17 @@
 -- Where each value of a Fractured JSON document ends, by its bytes alone, and the tree of a document, computed. Both are
 -- meant for accepted documents; of any other they say nothing.
 use Prim.Native.Nat.{ℕ, zero, suc, _+_, _-_, _*_}
-use mathlib.Core.Bool.{Bool, true, false}
 use mathlib.Core.List.{List, []}
 use lib.Dec.{ltb}
-use lib.ListN.{length, getD}
+use lib.ListN.{getD}
 use Rattle.json.specs.Bytes.{number, part}
 use Rattle.json.specs.Choose.{choose}
 use Rattle.json.specs.Limits.{deepest}
-use Rattle.json.specs.Number.{Float, floatTree}
+use Rattle.json.specs.Number.{floatTree}
 use Rattle.json.specs.Reading.{Outcome, halt, done}
-use Rattle.json.specs.Tree.{Tree, null, bool, num, str, arr, obj, Trees, none, more, Members, end, member}
-use Rattle.fractured_json_rules.specs.ByteTables.{Width, bytes, Len, tiny, behind, Form, fNull, fBool, fInt, fFloat, fTiny, fString, fObject, fArray, fReserved, formOf, Index, inByte, spelled, KeyForm, immediate, backReference, globalIndex, kReserved, keyFormOf}
-use Rattle.fractured_json_rules.specs.Meaning.{Key, noKey, Keys, keyText, behindLength, intTree, tinyTree}
+use Rattle.json.specs.Tree.{Tree, null, bool, str, arr, obj, Trees, none, more, Members, end, member}
+use Rattle.fractured_json_rules.specs.ByteTables.{bytes, Len, tiny, behind, Form, fNull, fBool, fInt, fFloat, fTiny, fString, fObject, fArray, fReserved, formOf, Index, inByte, spelled, KeyForm, immediate, backReference, globalIndex, kReserved, keyFormOf}
+use Rattle.fractured_json_rules.specs.Meaning.{noKey, Keys, keyText, behindLength, intTree, tinyTree}
 use Rattle.fractured_json_rules.specs.Verdict.{Counted, counted, verdict}
 
 -- ---- ends

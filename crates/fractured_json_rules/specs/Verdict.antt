@@ -11,11 +11,11 @@ use lib.ListN.{length, getD}
 use Rattle.json.specs.Bytes.{number, part}
 use Rattle.json.specs.Choose.{choose}
 use Rattle.json.specs.Limits.{leastFractured, longest, deepest}
-use Rattle.json.specs.Number.{Float, finite}
+use Rattle.json.specs.Number.{finite}
 use Rattle.json.specs.Reading.{Outcome, Reading, answer, refuse, kept, keep, _>>=_, _>>_, need}
 use Rattle.json.specs.Texts.{compareTexts, isEqual}
-use Rattle.fractured_json_rules.specs.ByteTables.{Width, bytes, Len, tiny, behind, Form, fNull, fBool, fInt, fFloat, fTiny, fString, fObject, fArray, fReserved, formOf, Index, inByte, spelled, KeyForm, immediate, backReference, globalIndex, kReserved, keyFormOf}
-use Rattle.fractured_json_rules.specs.Meaning.{Key, Keys, keyText, behindLength}
+use Rattle.fractured_json_rules.specs.ByteTables.{bytes, Len, tiny, behind, Form, fNull, fBool, fInt, fFloat, fTiny, fString, fObject, fArray, fReserved, formOf, Index, inByte, spelled, KeyForm, immediate, backReference, globalIndex, kReserved, keyFormOf}
+use Rattle.fractured_json_rules.specs.Meaning.{Keys, keyText, behindLength}
 
 -- ---- 31 to 34
 

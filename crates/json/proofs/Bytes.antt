@@ -4,7 +4,6 @@ use mathlib.Core.List.{List}
 use mathlib.Core.Path.{_≡_}
 use native.Mathlib.Nat.{pow-succ', div-add-mod'}
 use native.Mathlib.Omega.{arith}
-use lib.ListN.{getD}
 use Rattle.json.specs.Bytes.{Bytes, number, lowField, highField}
 
 pub number-small : (doc : List ℕ) → Bytes doc → (o n : ℕ) → number doc o n < 256 ^ n

@@ -1,15 +1,13 @@
 -- Examples that hold the definitions of this crate to what document 01 says, computed from them.
-use Prim.Native.Nat.{ℕ, zero, suc, _+_, _-_, _*_, _/_, _%_, _^_, max}
+use Prim.Native.Nat.{_^_}
 use mathlib.Core.Bool.{true, false}
-use mathlib.Core.List.{List, [], _∷_}
 use mathlib.Core.Path.{_≡_, refl}
-use Rattle.json.specs.Bytes.{number, lowField, highField, part, hex}
+use Rattle.json.specs.Bytes.{number, lowField, highField, hex}
 use Rattle.json.specs.Choose.{choose}
 use Rattle.json.specs.Limits.{leastBinary, leastFractured, longest, deepest, mostKeys}
 use Rattle.json.specs.Number.{binary32, binary64, finite, magnitude, floatTree, wholeTree, signedTree}
 use Rattle.json.specs.Texts.{byNumbers, compareTexts}
-use Rattle.json.specs.Tree.{Tree, null, bool, num, str, arr, obj, Trees, none, more, Members, end, member, depth, values}
-use Rattle.json.specs.declared.Order.{Order}
+use Rattle.json.specs.Tree.{Tree, null, num, arr, obj, none, more, end, member, depth, values}
 use Rattle.json.specs.declared.Order.the-variants.{Below, Equal, Above}
 
 -- little endian; the five-bit field is the lower one

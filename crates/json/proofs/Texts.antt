@@ -1,7 +1,7 @@
 -- The laws of the order of numbers and of texts: it is strict and total, it is co-transitive (whatever lies below another
 -- leaves no text that is neither above the one nor below the other), and two texts are equal in it exactly if they are one.
-use mathlib.Core.Path.{_≡_, refl, sym, ap, _∙_}
-use mathlib.Core.Logic.{_≢_, _↔_, _⊎_, inl, inr}
+use mathlib.Core.Path.{_≡_, refl, sym, _∙_}
+use mathlib.Core.Logic.{_↔_, _⊎_, inl, inr}
 use mathlib.Core.Bool.{Bool, true, false, not}
 use mathlib.Core.List.{List, [], _∷_}
 use Prim.Native.Nat.{ℕ, _≤_, _<_}

@@ -1,9 +1,9 @@
 -- Facts about trees: what stands at a place of an array or an object, and how deep a subtree is.
-use mathlib.Core.Path.{_≡_, refl, sym, ap, _∙_}
+use mathlib.Core.Path.{_≡_, refl, sym, _∙_}
 use mathlib.Core.List.{List}
-use Prim.Native.Nat.{ℕ, zero, suc, _≤_, _<_, max}
+use Prim.Native.Nat.{ℕ, zero, suc, _≤_, _<_}
 use native.Mathlib.Omega.{arith}
-use Rattle.json.specs.Tree.{Tree, null, bool, num, str, arr, obj, Trees, none, more, Members, end, member, size, sizem, depth, depths, depthm, ElementIs, MemberIs, Subtree, whole, element, value}
+use Rattle.json.specs.Tree.{Tree, Trees, none, more, Members, end, member, size, sizem, depth, depths, depthm, ElementIs, MemberIs, Subtree, whole, element, value}
 
 -- element i and member j are there exactly below the size, and are one
 pub element-at : (ts : Trees) (i : ℕ) → i < size ts → (v : Tree) × ElementIs ts i v

@@ -2,7 +2,6 @@
 -- where the test fails, reading stops there with that number and place, so the first failed rule wins.
 use Prim.Native.Nat.{ℕ}
 use mathlib.Core.Bool.{Bool, true, false}
-use Rattle.json.specs.declared.Refusal.{Refusal}
 use Rattle.json.specs.declared.Verdict.{Verdict}
 use Rattle.json.specs.declared.Verdict.the-variants.{Accepted, Refused}
 

@@ -3,7 +3,7 @@
 use Prim.Native.Nat.{ℕ}
 use mathlib.Core.List.{List, []}
 use Rattle.json.specs.Bytes.{part}
-use Rattle.json.specs.Reading.{Outcome, halt, done, Asked}
+use Rattle.json.specs.Reading.{halt, done, Asked}
 
 pub record Span : Type 0 where
   pub place : ℕ

@@ -1,8 +1,8 @@
 -- The tree that a document of either format means: document 01, end of section "FJ, laid out". An array's values and an
 -- object's members stand in document order; a text is its bytes.
 use Prim.Native.Nat.{ℕ, zero, suc, _+_, max}
-use mathlib.Core.Bool.{Bool, true, false, Bool-discrete}
-use mathlib.Core.List.{List, [], _∷_, List-discrete}
+use mathlib.Core.Bool.{Bool, Bool-discrete}
+use mathlib.Core.List.{List, List-discrete}
 use mathlib.Core.Logic.{_≢_}
 use mathlib.Core.Path.{_≡_}
 use native.Mathlib.Decide.{ℕ-discrete}

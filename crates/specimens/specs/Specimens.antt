@@ -1,16 +1,16 @@
 -- The fourteen documents that document 01, section "Bench specimens", marks, each with what it says of it: the tree, or the
 -- number and place of its refusal. And the two lookups it gives for {"a":true}.
-use Prim.Native.Nat.{ℕ, _*_, _^_}
+use Prim.Native.Nat.{ℕ}
 use mathlib.Core.Bool.{true, false}
 use mathlib.Core.List.{List, [], _∷_}
 use Rattle.json.specs.Bytes.{hex}
 use Rattle.json.specs.Limits.{mostKeys}
 use Rattle.json.specs.Number.{scaled}
 use Rattle.json.specs.Reading.{Outcome, halt, done}
-use Rattle.json.specs.Tree.{Tree, null, bool, num, str, arr, obj, Trees, none, more, Members, end, member}
+use Rattle.json.specs.Tree.{Tree, null, bool, num, arr, obj, none, more, end, member}
 use Rattle.binary_json_rules.specs.Verdict as Binary
 use Rattle.binary_json_rules.specs.TreeOf as BinaryTree
-use Rattle.binary_json_rules.specs.Lookup.{Found, entry, absent, Counted, counted}
+use Rattle.binary_json_rules.specs.Lookup.{entry, absent, Counted, counted}
 use Rattle.fractured_json_rules.specs.Verdict as Fractured
 use Rattle.fractured_json_rules.specs.Meaning.{Keys}
 use Rattle.fractured_json_rules.specs.TreeOf as FracturedTree
