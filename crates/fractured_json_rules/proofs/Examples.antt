@@ -180,6 +180,10 @@ lines =
     line (hex 4 0x464A019E) [] 0 (firstMemberOf 3 []) (refused 21 3) ∷
     line (hex 4 0x464A0100) [] 0 (numberAt 3) (refused 21 3) ∷
     line (hex 4 0x464A0100) [] 0 (stringAt 3) (refused 21 3) ∷
+    -- a reserved type byte is 36 to every question
+    line (hex 4 0x464A01FE) [] 0 (numberAt 3) (refused 36 3) ∷
+    line (hex 4 0x464A01FF) [] 0 (stringAt 3) (refused 36 3) ∷
+    line (hex 4 0x464A01FE) [] 0 (memberAt 3 0) (refused 36 3) ∷
     -- the end
     line (hex 7 0x464A016F046102) [] 0 (endAt 3) (placeIs 7) ∷
     line (hex 12 0x464A010C000000000000F07F) [] 0 (endAt 3) (refused 43 3) ∷

@@ -71,6 +71,11 @@ unfolding need
 need-yes true n p s h = refl
 need-yes false n p s h = absurd h
 
+pub need-no : {S : Type 0} (t : Bool) (n p : ℕ) (s : S) → (T t → ⊥) → need t n p s ≡ halt n p s
+unfolding need
+need-no true n p s h = absurd (h tt)
+need-no false n p s h = refl
+
 -- a chain of chains is one chain
 assoc-by : {S A B C : Type 0} (f : A → Reading S B) (g : B → Reading S C) (o : Outcome S A) → follow (follow o f) g ≡ follow o (λ a. f a >>= g)
 unfolding _>>=_ follow
