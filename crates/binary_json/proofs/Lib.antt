@@ -1,0 +1,5 @@
+pub mod Headers
+pub mod Slots
+pub mod Naming
+pub mod Walks
+pub mod Checks

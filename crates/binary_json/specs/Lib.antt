@@ -1,0 +1,4 @@
+pub mod Laid
+pub mod Slots
+pub mod Naming
+pub mod Walks

@@ -1,0 +1,9 @@
+// The answers to the questions, and the three kinds of offset. specs/Told.antt gives each case its number and values.
+use json::Refusal;
+
+// The offset of a Meta or an Entry, of a slot of the string index, and of a number: three kinds that are not mixed.
+pub struct TreeOffset(pub usize);
+
+pub struct SlotOffset(pub usize);
+
+pub struct NumberOffset(pub usize);

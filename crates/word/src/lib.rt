@@ -1,0 +1,60 @@
+// Integers out of bytes, lowest byte first, and the two fields of a word.
+ghost use mathlib.Core.Path.{_≡_};
+ghost use Prim.Native.Nat.{_+_, _≤_, _<_};
+ghost use lib.ListN.{length};
+ghost use Rattle.json.specs.Bytes.{number, lowField, highField};
+
+// A byte as a number.
+pub fn wide(x: u8) -> u64
+    ensures { λ r. ⌜ (r ≡ x) × (r < 256) ⌝ }
+{
+    x as u64
+}
+
+// The number that the n bytes at a place make. With n = 4 or 8 it compiles to one load.
+pub fn integer(s: &[u8], at: usize, n: usize) -> u64
+    requires { ⌜ (n ≤ 8) × (at + n ≤ length (now s)) ⌝ }
+    ensures { λ r. ⌜ r ≡ number (now (s .entry)) at n ⌝ }
+{
+    let mut value: u64 = 0;
+    let mut i = n;
+    while 0 < i {
+        i -= 1;
+        value = value * 256 + wide(s[at + i]);
+    }
+    value
+}
+
+// The number that the first eight bytes make: a reader is handed the part of the document that begins at the number.
+pub fn eight(s: &[u8]) -> u64
+    requires { ⌜ 8 ≤ length (now s) ⌝ }
+    ensures { λ r. ⌜ r ≡ number (now (s .entry)) 0 8 ⌝ }
+{
+    integer(s, 0, 8)
+}
+
+// The word at a place: four bytes.
+pub fn word_at(s: &[u8], at: usize) -> u32
+    requires { ⌜ at + 4 ≤ length (now s) ⌝ }
+    ensures { λ r. ⌜ r ≡ number (now (s .entry)) at 4 ⌝ }
+{
+    integer(s, at, 4) as u32
+}
+
+// A word's two fields, as numbers to count with.
+pub struct Fields {
+    pub low: usize,
+    pub high: usize,
+}
+
+// The field in the lowest k bits of a word, by mask, and the field above it, by shift.
+pub fn split(w: u32, k: u32) -> Fields
+    requires { ⌜ k < 32 ⌝ }
+    ensures { λ r. ⌜ (r .low ≡ lowField k w) × (r .high ≡ highField k w) ⌝ }
+{
+    let mask = (1u32 << k) - 1;
+    Fields {
+        low: (w & mask) as usize,
+        high: (w >> k) as usize,
+    }
+}
