@@ -3,3 +3,6 @@ pub mod Slots
 pub mod Naming
 pub mod Walks
 pub mod Checks
+pub mod Openings
+pub mod Metas
+pub mod Entries

@@ -2,23 +2,29 @@
 use mathlib.Core.Path.{_≡_, refl, sym, ap, _∙_}
 use mathlib.Core.Bool.{Bool, true, false, not}
 use mathlib.Core.List.{List}
-use Prim.Native.Nat.{ℕ, _+_, _-_, _*_, _/_, _%_, _^_, _≤_, _<_}
+use Prim.Native.Nat.{ℕ, suc, _+_, _-_, _*_, _/_, _%_, _^_, _≤_, _<_}
 use native.Mathlib.Omega.{arith}
 use borrow.Author.Needs.{needs}
 use lib.Dec.{T, leb, ltb, eqb, leb→le, le→leb, lt→ltb, ltb→lt, eqb→eq, not-T, T-not, eqb-refl}
 use lib.ListN.{length, take, drop}
 use Rattle.json.specs.Bytes.{number}
 use Rattle.json.specs.Number.{binary64, finite}
-use Rattle.json.specs.Reading.{ask, answers, refuses}
-use Rattle.json.proofs.Reading.{pass, fail, need-yes, need-no}
+use Rattle.json.specs.Reading.{Reading, answer, ask, answers, refuses, _>>=_}
+use Rattle.json.proofs.Reading.{then, stops, pass, fail, need-yes, need-no}
 use Rattle.word.proofs.Laws.{number-part}
-use Rattle.binary_json_rules.specs.Areas.{index, count, slot, numbers}
+use Rattle.binary_json_rules.specs.Areas.{high, index, count, slot, text, numbers}
 use Rattle.binary_json_rules.specs.Verdict.{slotNamed, numberNamed}
+use Rattle.binary_json_rules.specs.Meaning.{SlotIs}
+use Rattle.binary_json_rules.specs.Questions.{slotRead, textNamed}
+use Rattle.binary_json_rules.specs.TreeOf.{slotAt}
 use Rattle.binary_json_rules.proofs.Complete.{eq→eqb}
+use Rattle.binary_json_rules.proofs.Sound.{slot-sound}
+use Rattle.binary_json_rules.proofs.Trees.{slot-at}
 use Rattle.binary_json.specs.Laid.{Laid}
-use Rattle.binary_json.specs.Naming.{SlotNamed, NumberNamed}
+use Rattle.binary_json.specs.Naming.{SlotNamed, NumberNamed, TextRead, TextNamed}
 use Rattle.binary_json.specs.declared.areas.Areas.{Areas}
 use Rattle.binary_json.specs.declared.named.Numbered.{Numbered}
+use Rattle.binary_json.specs.declared.named.Texted.{Texted}
 use Rattle.binary_json.proofs.Headers.{over, unlike}
 use Rattle.binary_json.proofs.Slots.{slot-is}
 
@@ -96,3 +102,108 @@ module _ (doc : List ℕ) (a : Areas) (x : Laid doc a) (v : ℕ) where
         )
 
 pub ruleset number-named-laws = (before-numbers, between-numbers, past-document, cut-short, infinite, finite-number, needs)
+
+-- ---- texts
+
+-- a word that names a slot is the offset of the slot whose number it gives
+named-slot : (doc : List ℕ) (v : ℕ) → SlotNamed doc v true → SlotIs doc v (slotAt doc v)
+named-slot doc v h =
+    let end : Unit {0} → Reading (Unit {0}) (Unit {0}) = λ _. answer tt in
+    let done : ask (slotNamed doc v 0 0 >>= end) ≡ answers tt = then _ _ tt (h 0 0) in
+    let (k, is, e) = slot-sound doc end tt v 0 0 done in
+    let s = slot-at doc v k is in
+    record { counted = rw s (is .counted); place = rw s (is .place) }
+
+module _ (doc : List ℕ) (a : Areas) (x : Laid doc a) (v : ℕ) (h : SlotNamed doc v true) where
+  v-inside : (a .index + 4 ≤ v) × (v < a .index + 4 + 4 * a .count) × ((v - (a .index + 4)) % 4 ≡ 0)
+  v-inside =
+      let is = named-slot doc v h in
+      let n = is .counted in
+      let p = is .place ∙ sym (slot-is doc (a .index) (a .count) (slotAt doc v) (x .framed)) in
+      let c = x .framed .count-is in
+      (omega arith, omega arith, omega arith)
+
+  pub slot-inside : v + 4 ≤ length doc
+  slot-inside = let (b, c, s) = v-inside in let i = x .framed .slots-inside in omega arith
+
+  pub before-inside : (v ≡ a .index + 4 → ⊥) → v - 4 + 4 ≤ length doc
+  before-inside n = let (b, c, s) = v-inside in let i = x .framed .slots-inside in omega arith
+
+  pub before-there : (v ≡ a .index + 4 → ⊥) → 4 ≤ v
+  before-there n = let (b, c, s) = v-inside in omega arith
+
+  pub first-start : v ≡ a .index + 4 → a .index + 4 + 4 * a .count ≡ text doc (slotAt doc v)
+  unfolding text
+  first-start e =
+      let q : slotAt doc v ≡ 0 = let is = named-slot doc v h in let p = is .place ∙ sym (slot-is doc (a .index) (a .count) (slotAt doc v) (x .framed)) in omega arith in
+      last-is doc a x v ∙ sym (ap (text doc) q)
+
+  after-slot : (k : ℕ) → slotAt doc v ≡ suc k → high doc (v - 4) ≡ text doc (slotAt doc v)
+  unfolding text
+  after-slot k e =
+      let is = named-slot doc v h in
+      let p = is .place ∙ sym (slot-is doc (a .index) (a .count) (slotAt doc v) (x .framed)) in
+      let q : v - 4 ≡ a .index + 4 + 4 * k = omega arith in
+      ap (λ o. high doc o) (q ∙ slot-is doc (a .index) (a .count) k (x .framed)) ∙ sym (ap (text doc) e)
+
+  pub later-start : (f : ℕ) → (v ≡ a .index + 4 → ⊥) → f ≡ high doc (v - 4) → f ≡ text doc (slotAt doc v)
+  later-start f n e =
+      let is = named-slot doc v h in
+      let p = is .place ∙ sym (slot-is doc (a .index) (a .count) (slotAt doc v) (x .framed)) in
+      let q : slotAt doc v ≡ suc (slotAt doc v - 1) = omega arith in
+      e ∙ after-slot (slotAt doc v - 1) q
+
+  text-end : high doc v ≡ text doc (suc (slotAt doc v))
+  unfolding text
+  text-end = ap (λ o. high doc o) (named-slot doc v h .place)
+
+  module _ (start e : ℕ) (st : start ≡ text doc (slotAt doc v)) (es : e ≡ high doc v) where
+    end-is : e ≡ text doc (suc (slotAt doc v))
+    end-is = es ∙ text-end
+
+    pub starts-early : start < a .index + 4 + 4 * a .count → TextRead doc v Texted.Bad
+    unfolding slotRead
+    starts-early q c = fail _ _ _ _ tt (over (rw (last-is doc a x v, st) at q))
+
+    module _ (b : a .index + 4 + 4 * a .count ≤ start) where
+      pub no-text : e ≤ start → TextRead doc v Texted.Bad
+      unfolding slotRead
+      no-text q c =
+          let g = end-is in
+          pass _ _ _ _ tt (le→leb _ _ (rw (last-is doc a x v, st) at b)) ∙ fail _ _ _ _ tt (λ t. let l = ltb→lt (text doc (slotAt doc v)) (text doc (suc (slotAt doc v))) t in omega arith)
+
+      module _ (f : start < e) where
+        forward : T (ltb (text doc (slotAt doc v)) (text doc (suc (slotAt doc v))))
+        forward = let g = end-is in let q : text doc (slotAt doc v) < text doc (suc (slotAt doc v)) = omega arith in lt→ltb _ _ q
+
+        pub past-numbers : a .numbers < e → TextRead doc v Texted.Bad
+        unfolding slotRead
+        past-numbers q c =
+            pass _ _ _ _ tt (le→leb _ _ (rw (last-is doc a x v, st) at b)) ∙ (pass _ _ _ _ tt forward ∙ fail _ _ _ _ tt (over (rw (x .numbers-is, end-is) at q)))
+
+        pub good-text : e ≤ a .numbers → TextRead doc v (Texted.At start (e - 1 - start))
+        unfolding slotRead
+        good-text q =
+            let i = x .inside in (
+              omega arith,
+              λ c.
+                  pass _ _ _ _ tt (le→leb _ _ (rw (last-is doc a x v, st) at b)) ∙ (pass _ _ _ _ tt forward ∙ (pass _ _ _ _ tt (le→leb _ _ (rw (x .numbers-is, end-is) at q))
+                  ∙ rw (st, end-is))),
+            )
+
+pub ruleset text-laws = (slot-inside, before-inside, before-there, first-start, later-start, starts-early, no-text, past-numbers, good-text, needs)
+
+module _ (doc : List ℕ) (v : ℕ) (g : Bool) (named : SlotNamed doc v g) where
+  pub no-slot : g ≡ false → TextNamed doc v Texted.Bad
+  unfolding textNamed
+  no-slot q c = stops _ _ tt ((rw q at named) 20 c)
+
+  pub a-name : g ≡ true → SlotNamed doc v true
+  a-name q = rw q at named
+
+  pub slot-text : (r : Texted) → g ≡ true → TextRead doc v r → TextNamed doc v r
+  unfolding textNamed
+  slot-text (Texted.At p l) q h = (h .0, λ c. then _ _ tt ((rw q at named) 20 c) ∙ h .1 c)
+  slot-text Texted.Bad q h = λ c. then _ _ tt ((rw q at named) 20 c) ∙ h c
+
+pub ruleset named-laws = (no-slot, a-name, slot-text, needs)

@@ -13,7 +13,7 @@ const LEAST: usize = 12;
 const LONGEST: usize = 65536;
 
 // The word at a place.
-pub fn word_at(doc: &[u8], at: usize) -> usize
+pub(crate) fn word_at(doc: &[u8], at: usize) -> usize
     requires { ⌜ at + 4 ≤ length (now doc) ⌝ }
     ensures { λ r. ⌜ (r ≡ word (now (doc .entry)) at) × (r < 2 ^ 32) ⌝ }
 {
@@ -21,7 +21,7 @@ pub fn word_at(doc: &[u8], at: usize) -> usize
 }
 
 // The two fields of the word at a place; the lower one has five bits.
-pub fn fields_at(doc: &[u8], at: usize) -> Fields
+pub(crate) fn fields_at(doc: &[u8], at: usize) -> Fields
     requires { ⌜ at + 4 ≤ length (now doc) ⌝ }
     ensures { λ r. ⌜ (r .low ≡ low (now (doc .entry)) at) × (r .high ≡ high (now (doc .entry)) at) × (r .high < 2 ^ 27) ⌝ }
 {
@@ -89,7 +89,7 @@ pub enum Header {
 }
 
 // Rules 1 to 4.
-pub fn read_header(doc: &[u8]) -> Header
+pub(crate) fn read_header(doc: &[u8]) -> Header
     ensures { λ r. ⌜ Headed (now (doc .entry)) r ⌝ }
 {
     let i = read_index(doc);

@@ -1,7 +1,9 @@
 // A reader of BinaryJson: the check, the questions and both lookups, each proved equal to its rule in `binary_json_rules`.
 pub mod answers;
 mod areas;
+mod asking;
 mod named;
+pub mod questions;
 mod strings;
 mod walk;
 

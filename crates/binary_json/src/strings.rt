@@ -11,7 +11,7 @@ ghost use Rattle.binary_json.specs.Laid.{Framed};
 ghost use Rattle.binary_json.specs.Slots.{Texts, Rule5, SlotRead, SlotsRead};
 
 // A text from start up to end, without its closing byte.
-pub fn content(doc: &[u8], start: usize, end: usize) -> &[u8]
+pub(crate) fn content(doc: &[u8], start: usize, end: usize) -> &[u8]
     requires { ⌜ (start < end) × (end ≤ length (now doc)) ⌝ }
     ensures { λ r. ⌜ now r ≡ part (now (doc .entry)) start (end - 1 - start) ⌝ }
 {
@@ -86,7 +86,7 @@ fn read_slot(doc: &[u8], index: usize, count: usize, k: usize, before: usize, st
 }
 
 // Rules 5 and 6 over all slots: where the numbers start.
-pub fn read_slots(doc: &[u8], index: usize, count: usize) -> Walk
+pub(crate) fn read_slots(doc: &[u8], index: usize, count: usize) -> Walk
     requires { ⌜ Framed (now doc) index count ⌝ }
     ensures { λ r. ⌜ SlotsRead (now (doc .entry)) r ⌝ }
 {

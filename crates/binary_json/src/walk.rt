@@ -189,7 +189,7 @@ fn subtree(doc: &[u8], a: Areas, below: usize, at: usize, due: usize) -> Walk
 }
 
 // The container at a place, with so many levels left: the end of its subtree.
-pub fn walk_container(doc: &[u8], a: Areas, levels: usize, o: usize) -> Walk
+pub(crate) fn walk_container(doc: &[u8], a: Areas, levels: usize, o: usize) -> Walk
     requires { ⌜ Laid (now doc) a ⌝ }
     ensures { λ r. ⌜ toldWalk r ≡ ask (container levels (now (doc .entry)) o) ⌝ }
 {
@@ -253,7 +253,7 @@ fn walk_scalar(doc: &[u8], a: Areas, n: usize) -> Walk
 }
 
 // The whole tree, from the root container on: where it ends.
-pub fn walk_root(doc: &[u8], a: Areas) -> Walk
+pub(crate) fn walk_root(doc: &[u8], a: Areas) -> Walk
     requires { ⌜ Laid (now doc) a ⌝ }
     ensures { λ r. ⌜ toldWalk r ≡ ask (rootBy (now (doc .entry)) (kindOf (low (now (doc .entry)) 4))) ⌝ }
 {

@@ -58,7 +58,7 @@ record FoundMembers (doc : List ℕ) (l n p q a d e : ℕ) : Type 0 where
 -- ---- what a word names
 
 module _ {S B : Type 0} (doc : List ℕ) (f : Unit {0} → Reading S B) (s : S) where
-  slot-sound : (v n p : ℕ) {b : B} {z : S} → (slotNamed doc v n p >>= f) s ≡ done b z → (k : ℕ) × SlotIs doc v k × (f tt s ≡ done b z)
+  pub slot-sound : (v n p : ℕ) {b : B} {z : S} → (slotNamed doc v n p >>= f) s ≡ done b z → (k : ℕ) × SlotIs doc v k × (f tt s ≡ done b z)
   unfolding slotNamed slot
   slot-sound v n p h =
       let s1 = passed _ _ _ _ _ (sym (assoc _ _ f s) ∙ h) in
