@@ -1,8 +1,1 @@
-pub mod Headers
-pub mod Slots
-pub mod Naming
-pub mod Walks
-pub mod Checks
-pub mod Openings
-pub mod Metas
-pub mod Entries
+pub mod Demands

@@ -1,70 +1,26 @@
-// A reader of BinaryJson: the check, the questions and both lookups, each proved equal to its rule in `binary_json_rules`.
-pub mod answers;
-mod areas;
-mod asking;
-mod named;
-pub mod questions;
-mod strings;
-mod walk;
-
-use areas::Areas;
-use areas::Header;
-use areas::Walk;
-use json::Refusal;
-use json::Verdict;
-ghost use mathlib.Core.Path.{_≡_};
-ghost use Rattle.json.specs.Reading.{told};
-ghost use Rattle.binary_json_rules.specs.Verdict.{verdict};
-ghost use Rattle.binary_json.specs.Laid.{Indexes};
-
-// The rules from 7 on, of a document whose string index is good.
-fn check_tree(doc: &[u8], a: Areas) -> Verdict
-    requires { ⌜ Indexes (now doc) a ⌝ }
-    ensures { λ r. ⌜ told r ≡ verdict (now (doc .entry)) ⌝ }
-{
-    let numbers = a.numbers;
-    let step = (doc.len() - numbers) % 8;
-    if step != 0 {
-        return Verdict::Refused(Refusal {
-            number: 7,
-            place: numbers,
-        });
-    }
-    let w = walk::walk_root(doc, a);
-    match w {
-        Walk::Refused(r) => Verdict::Refused(r),
-        Walk::End(end) => {
-            if end == a.index {
-                return Verdict::Accepted;
-            }
-            Verdict::Refused(Refusal {
-                number: 13,
-                place: end,
-            })
-        }
-    }
-}
-
-// The check: refusals 1 to 13 with their places, in one pass.
-pub fn check(doc: &[u8]) -> Verdict
-    ensures { λ r. ⌜ told r ≡ verdict (now (doc .entry)) ⌝ }
-{
-    let h = areas::read_header(doc);
-    match h {
-        Header::Refused(r) => Verdict::Refused(r),
-        Header::At { index, count } => {
-            let s = strings::read_slots(doc, index, count);
-            match s {
-                Walk::Refused(r) => Verdict::Refused(r),
-                Walk::End(numbers) => check_tree(
-                    doc,
-                    Areas {
-                        index,
-                        count,
-                        numbers,
-                    },
-                ),
-            }
-        }
-    }
-}
+// A reader of BinaryJson: the check, the questions and both lookups. Each is proved equal to its rule in `binary_json_rules`;
+// proofs/Demands.antt says what that makes of their answers.
+pub use binary_json_areas::offsets::NumberOffset;
+pub use binary_json_areas::offsets::SlotOffset;
+pub use binary_json_areas::offsets::TreeOffset;
+pub use binary_json_check::check;
+pub use binary_json_lookup::lookup::plain_scan;
+pub use binary_json_lookup::lookup::quick_lookup;
+pub use binary_json_questions::answers::Bits;
+pub use binary_json_questions::answers::Looked;
+pub use binary_json_questions::answers::MemberAt;
+pub use binary_json_questions::answers::Scanned;
+pub use binary_json_questions::answers::Sized;
+pub use binary_json_questions::answers::Span;
+pub use binary_json_questions::answers::TreeAt;
+pub use binary_json_questions::answers::Typed;
+pub use binary_json_questions::questions::container;
+pub use binary_json_questions::questions::element;
+pub use binary_json_questions::questions::entry_type;
+pub use binary_json_questions::questions::kind_and_size;
+pub use binary_json_questions::questions::member;
+pub use binary_json_questions::questions::number;
+pub use binary_json_questions::questions::slot;
+pub use binary_json_questions::questions::slot_text;
+pub use binary_json_questions::questions::string;
+pub use binary_json_questions::questions::string_text;

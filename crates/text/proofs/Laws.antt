@@ -1,6 +1,6 @@
 -- What two texts' order is, from a place up to which they agree: one law for each way through `compare`.
-use mathlib.Core.Path.{_≡_, refl, sym, ap, _∙_}
-use mathlib.Core.List.{List, [], _∷_}
+use mathlib.Core.Path.{_≡_, refl}
+use mathlib.Core.List.{List}
 use Prim.Native.Nat.{ℕ, _+_, _≤_, _<_}
 use native.Mathlib.Numerals.{add-one}
 use native.Mathlib.Omega.{arith}
@@ -10,7 +10,6 @@ use lib.ListN.{length, drop, getD, drop-of-length-le}
 use lib.Seq.{drop-cons}
 use Rattle.json.specs.Choose.{choose}
 use Rattle.json.specs.Texts.{byNumbers, compareTexts}
-use Rattle.json.specs.declared.Order.{Order}
 use Rattle.json.specs.declared.Order.the-variants.{Below, Equal, Above}
 
 -- the order of what follows place i is the order of the texts

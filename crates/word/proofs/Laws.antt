@@ -1,5 +1,5 @@
 -- Laws of integers out of bytes, over the byte count, and of a word's fields, over the field width.
-use mathlib.Core.Path.{_≡_, refl, sym, ap, _∙_}
+use mathlib.Core.Path.{_≡_, refl, _∙_}
 use mathlib.Core.List.{List}
 use Prim.Native.Nat.{ℕ, zero, suc, _+_, _-_, _*_, _/_, _%_, _^_, _≤_, _<_}
 use native.Mathlib.Nat.{mod-eq-of-lt, one-le-pow, pow-le-pow-right, pow-succ', le-refl, add-zero, mod-le, div-le-self}

@@ -1,0 +1,142 @@
+-- Demands 1 to 3 of the code's own answers. A premise such as `told r ≡ verdict doc` is the contract of the call that
+-- answered r; what follows is what the caller may rely on. Each is the contract put together with a theorem about the rules.
+use mathlib.Core.Path.{_≡_, refl, sym, ap, _∙_}
+use mathlib.Core.Logic.{_↔_}
+use mathlib.Core.Bool.{Bool}
+use mathlib.Core.List.{List, []}
+use Prim.Native.Nat.{ℕ, _+_, _*_, _≤_, _<_}
+use Rattle.json.specs.Bytes.{part}
+use Rattle.json.specs.Number.{binary64, floatTree}
+use Rattle.json.specs.Reading.{ask, answers, refuses, told}
+use Rattle.json.specs.Span as Text
+use Rattle.json.specs.Tree.{Tree, num, str, arr, obj, Trees, Members, size, sizem, ElementIs, MemberIs, IsContainer, NoNumber, NoString, NoObject, NoContainer}
+use Rattle.json.specs.declared.Refusal.{Refusal}
+use Rattle.json.specs.declared.Verdict.{Verdict}
+use Rattle.json.proofs.Reading.{halt≢done}
+use Rattle.binary_json_rules.specs.Areas.{word, high, count, slot, content}
+use Rattle.binary_json_rules.specs.Meaning.{EntryIs, ContainerIs, Means}
+use Rattle.binary_json_rules.specs.Verdict.{verdict}
+use Rattle.binary_json_rules.specs.Leads.{EntryOf, Leads}
+use Rattle.binary_json_rules.specs.Questions.{kindAndSize, element, keyEntryOf, entryOf, memberAt, slotText, slotBytes, entryType, containerAt, stringAt, stringBytes, numberAt}
+use Rattle.binary_json_rules.specs.Halving.{digits, turnsOf}
+use Rattle.binary_json_rules.specs.Lookup.{Found, counted, quickLookup, textHalving, keyTurns, plainScan}
+use Rattle.binary_json_rules.specs.Answers.{sizedAs, typedAs}
+use Rattle.binary_json_rules.proofs.Demands as Rules
+use Rattle.binary_json_questions.specs.Told.{toldSized, toldTree, toldMember, toldType, toldSpan, toldBits, toldScan, toldLookup}
+use Rattle.binary_json_questions.specs.declared.answers.Sized.{Sized}
+use Rattle.binary_json_questions.specs.declared.answers.TreeAt.{TreeAt}
+use Rattle.binary_json_questions.specs.declared.answers.MemberAt.{MemberAt}
+use Rattle.binary_json_questions.specs.declared.answers.Typed.{Typed}
+use Rattle.binary_json_questions.specs.declared.answers.Span.{Span}
+use Rattle.binary_json_questions.specs.declared.answers.Bits.{Bits}
+use Rattle.binary_json_questions.specs.declared.answers.Scanned.{Scanned}
+use Rattle.binary_json_questions.specs.declared.answers.Looked.{Looked}
+
+-- ---- Demand 1: "Bad input is refused with the number and place that document 01 fixes."
+
+pub refused-as-fixed : (doc : List ℕ) (r : Refusal) → told (Verdict.Refused r) ≡ verdict doc → verdict doc ≡ refuses (r .number) (r .place)
+refused-as-fixed doc r e = sym e
+
+-- ---- Demand 2: "A document is accepted exactly if it keeps the format's rules." "Each accepted document means one tree."
+
+accepted : (r : Verdict) → told r ≡ answers tt → r ≡ Verdict.Accepted
+accepted Verdict.Accepted e = refl
+accepted (Verdict.Refused r) e = absurd (halt≢done e)
+
+pub accepted-exactly : (doc : List ℕ) (r : Verdict) → told r ≡ verdict doc → (r ≡ Verdict.Accepted) ↔ ((t : Tree) × Means doc t)
+accepted-exactly doc r e = (λ a. Rules.accepted-exactly doc .0 (sym (ap told (sym a) ∙ e)), λ m. accepted r (e ∙ Rules.accepted-exactly doc .1 m))
+
+pub one-tree : (doc : List ℕ) (t u : Tree) → Means doc t → Means doc u → t ≡ u
+one-tree doc t u m n = Rules.one-tree doc t u m n
+
+-- ---- "Every question put to a node that its root leads to is answered from that tree."
+
+module _ (doc : List ℕ) (t : Tree) (m : Means doc t) (c : ℕ) (l : Leads doc c) where
+  pub kind-and-size : (u : Tree) (r : Sized) → ContainerIs doc u c → toldSized r ≡ ask (kindAndSize doc c) → toldSized r ≡ answers (sizedAs u)
+  kind-and-size u r h e = e ∙ Rules.kind-and-size doc t m c l u h
+
+  pub element-of-array : (ts : Trees) (i : ℕ) (v : Tree) (r : TreeAt) → ContainerIs doc (arr ts) c → i < size ts → ElementIs ts i v → toldTree r ≡ ask (element doc c i)
+      → (toldTree r ≡ answers (c + 4 + 4 * i)) × EntryIs doc v (c + 4 + 4 * i)
+  element-of-array ts i v r h b x e = let (q, s) = Rules.element-of-array doc t m c l ts i v h b x in (e ∙ q, s)
+
+  pub element-past-end : (ts : Trees) (i : ℕ) (r : TreeAt) → ContainerIs doc (arr ts) c → size ts ≤ i → toldTree r ≡ ask (element doc c i) → toldTree r ≡ refuses 22 c
+  element-past-end ts i r h b e = e ∙ Rules.element-past-end doc t m c l ts i h b
+
+  pub element-of-object : (ms : Members) (i : ℕ) (r : TreeAt) → ContainerIs doc (obj ms) c → toldTree r ≡ ask (element doc c i) → toldTree r ≡ refuses 21 c
+  element-of-object ms i r h e = e ∙ Rules.element-of-object doc t m c l ms i h
+
+  pub element-of-scalar : (u : Tree) (r : TreeAt) → NoContainer u → ContainerIs doc u c → toldTree r ≡ ask (element doc c 0) → (toldTree r ≡ answers (c + 4)) × EntryIs doc u (c + 4)
+  element-of-scalar u r n h e = let (q, s) = Rules.element-of-scalar doc t m c l u n h in (e ∙ q, s)
+
+  pub member-of-object : (ms : Members) (j : ℕ) (x : List ℕ) (v : Tree) (r : MemberAt) (bytes : List ℕ) → ContainerIs doc (obj ms) c → j < sizem ms → MemberIs ms j x v
+      → toldMember r ≡ ask (memberAt doc c j) → bytes ≡ slotBytes doc (word doc (keyEntryOf c j))
+      → (toldMember r ≡ answers (record { slot = word doc (keyEntryOf c j); entry = entryOf c (sizem ms) j })) × (bytes ≡ x) × EntryIs doc v (entryOf c (sizem ms) j)
+  member-of-object ms j x v r bytes h b y e w = let (q, k, s) = Rules.member-of-object doc t m c l ms j x v h b y in (e ∙ q, w ∙ k, s)
+
+  pub member-past-end : (ms : Members) (j : ℕ) (r : MemberAt) → ContainerIs doc (obj ms) c → sizem ms ≤ j → toldMember r ≡ ask (memberAt doc c j) → toldMember r ≡ refuses 22 c
+  member-past-end ms j r h b e = e ∙ Rules.member-past-end doc t m c l ms j h b
+
+  pub member-of-other : (u : Tree) (j : ℕ) (r : MemberAt) → NoObject u → ContainerIs doc u c → toldMember r ≡ ask (memberAt doc c j) → toldMember r ≡ refuses 21 c
+  member-of-other u j r n h e = e ∙ Rules.member-of-other doc t m c l u j n h
+
+  module _ (a : ℕ) (o : EntryOf doc c a) where
+    pub entry-type : (v : Tree) (r : Typed) → EntryIs doc v a → toldType r ≡ ask (entryType doc a) → toldType r ≡ answers (typedAs v)
+    entry-type v r h e = e ∙ Rules.entry-type doc t m c l a o v h
+
+    pub container-of-entry : (v : Tree) (r : TreeAt) → IsContainer v → EntryIs doc v a → toldTree r ≡ ask (containerAt doc a)
+        → (toldTree r ≡ answers (high doc a)) × Leads doc (high doc a) × ContainerIs doc v (high doc a)
+    container-of-entry v r n h e = let (q, s, w) = Rules.container-of-entry doc t m c l a o v n h in (e ∙ q, s, w)
+
+    pub container-of-scalar : (v : Tree) (r : TreeAt) → NoContainer v → EntryIs doc v a → toldTree r ≡ ask (containerAt doc a) → toldTree r ≡ refuses 21 a
+    container-of-scalar v r n h e = e ∙ Rules.container-of-scalar doc t m c l a o v n h
+
+    pub string-of-entry : (s : List ℕ) (r : Span) → EntryIs doc (str s) a → toldSpan r ≡ ask (stringAt doc a) → (p : Text.Span) × (toldSpan r ≡ answers p) × (part doc (p .place) (p .len) ≡ s)
+    string-of-entry s r h e = let (p, q, w) = Rules.string-of-entry doc t m c l a o s h in (p, e ∙ q, w)
+
+    pub text-of-entry : (s bytes : List ℕ) → EntryIs doc (str s) a → bytes ≡ stringBytes doc a → bytes ≡ s
+    text-of-entry s bytes h e = e ∙ Rules.text-of-entry doc t m c l a o s h
+
+    pub string-of-other : (v : Tree) (r : Span) (bytes : List ℕ) → NoString v → EntryIs doc v a → toldSpan r ≡ ask (stringAt doc a) → bytes ≡ stringBytes doc a
+        → (toldSpan r ≡ refuses 21 a) × (bytes ≡ [])
+    string-of-other v r bytes n h e w = let (q, k) = Rules.string-of-other doc t m c l a o v n h in (e ∙ q, w ∙ k)
+
+    pub number-of-entry : (s : Bool) (n : ℕ) (r : Bits) → EntryIs doc (num s n) a → toldBits r ≡ ask (numberAt doc a) → (bits : ℕ) × (toldBits r ≡ answers bits) × (floatTree binary64 bits ≡ num s n)
+    number-of-entry s n r h e = let (b, q, w) = Rules.number-of-entry doc t m c l a o s n h in (b, e ∙ q, w)
+
+    pub number-of-other : (v : Tree) (r : Bits) → NoNumber v → EntryIs doc v a → toldBits r ≡ ask (numberAt doc a) → toldBits r ≡ refuses 21 a
+    number-of-other v r n h e = e ∙ Rules.number-of-other doc t m c l a o v n h
+
+pub text-of-slot : (doc : List ℕ) (t : Tree) (m : Means doc t) (k : ℕ) (r : Span) → k < count doc → toldSpan r ≡ ask (slotText doc (slot doc k))
+    → (p : Text.Span) × (toldSpan r ≡ answers p) × (part doc (p .place) (p .len) ≡ content doc k)
+text-of-slot doc t m k r b e = let (p, q, w) = Rules.text-of-slot doc t m k b in (p, e ∙ q, w)
+
+-- ---- Demand 3: "quick lookup and plain scan give the same answer: the Entry of the member with exactly that key, whose value
+-- is the one the tree holds under it, or absent exactly when no member has it. The quick lookup's two counts equal 01's
+-- halving rule, and together never exceed the binary digits of the string count plus those of the object's size."
+
+pub record LookedUp (doc : List ℕ) (t : Tree) (m : Means doc t) (c : ℕ) (ms : Members) (x : List ℕ) (quick : Looked) (scan : Scanned) : Type 0 where
+  pub answer : Found
+  pub right : Rules.Answered doc t m c ms x answer
+  pub by-scan : toldScan scan ≡ answers answer
+  pub first : ℕ
+  pub second : ℕ
+  pub by-halving : toldLookup quick ≡ answers (counted answer first second)
+  pub first-is : first ≡ turnsOf (textHalving doc x)
+  pub second-is : second ≡ keyTurns doc c (sizem ms) (textHalving doc x)
+  pub few : first + second ≤ digits (count doc) + digits (sizem ms)
+
+pub lookups-agree : (doc : List ℕ) (t : Tree) (m : Means doc t) (c : ℕ) (ms : Members) (x : List ℕ) (quick : Looked) (scan : Scanned) → Leads doc c → ContainerIs doc (obj ms) c
+    → toldLookup quick ≡ ask (quickLookup doc c x) → toldScan scan ≡ ask (plainScan doc c x) → LookedUp doc t m c ms x quick scan
+lookups-agree doc t m c ms x quick scan l h p q =
+    let r = Rules.lookups-agree doc t m c ms x l h in
+    record {
+      answer = r .answer;
+      right = r .right;
+      by-scan = q ∙ r .by-scan;
+      first = r .first;
+      second = r .second;
+      by-halving = p ∙ r .by-halving;
+      first-is = r .first-is;
+      second-is = r .second-is;
+      few = r .few;
+    }

@@ -1,0 +1,325 @@
+use Prim.Native.Nat.{_+_, _*_}
+use Rattle.binary_json_check.proofs.Walks.{Entered, walk-laws}
+use Prim.Native.Nat.{ℕ, _<_}
+use borrow.Fn.Kinds.{In}
+use borrow.Fn.PlainCycle.{Measures, is, falls, and}
+use Rattle.binary_json_check.proofs.walk.subtree.Reads as subtree
+use Rattle.binary_json_check.proofs.walk.subtree.Kinds as subtree-kinds
+use Rattle.binary_json_check.proofs.walk.+subtree+walk_container.Lts-subtree as subtree-lts
+use Rattle.binary_json_check.proofs.walk.walk_container.Reads as walk-container
+use Rattle.binary_json_check.proofs.walk.walk_container.Kinds as walk-container-kinds
+use Rattle.binary_json_check.proofs.walk.+subtree+walk_container.Lts-walk_container as walk-container-lts
+use Rattle.binary_json_check.proofs.walk.open_container.Reads as open-container-reads
+use Rattle.binary_json_check.proofs.walk.read_entry.Reads as read-entry-reads
+use Rattle.binary_json_check.proofs.walk.+subtree+walk_container.{statement}
+use Rattle.binary_json_check.proofs.walk.+subtree+walk_container.Tie.{close}
+
+abbrev μ-subtree : Measures 1 subtree-kinds.ps ℕ
+μ-subtree κs a = 2 * a .1 .1 .0 + 1
+
+abbrev μ-walk-container : Measures 1 walk-container-kinds.ps ℕ
+μ-walk-container κs a = 2 * a .1 .1 .0
+
+abbrev subtree-at : ℕ → In 1 subtree-kinds.ps
+subtree-at t = and 1 subtree-kinds.ps (is 1 subtree-kinds.ps μ-subtree t) subtree.Pre
+
+abbrev subtree-below : ℕ → In 1 subtree-kinds.ps
+subtree-below t = and 1 subtree-kinds.ps (falls 1 subtree-kinds.ps _<_ μ-subtree t) subtree.Pre
+
+abbrev walk-container-at : ℕ → In 1 walk-container-kinds.ps
+walk-container-at t =
+    and
+    1
+    walk-container-kinds.ps
+    (is 1 walk-container-kinds.ps μ-walk-container t)
+    walk-container.Pre
+
+abbrev walk-container-below : ℕ → In 1 walk-container-kinds.ps
+walk-container-below t =
+    and
+    1
+    walk-container-kinds.ps
+    (falls 1 walk-container-kinds.ps _<_ μ-walk-container t)
+    walk-container.Pre
+
+-- src/walk.rt:138:9
+subtree-read-entry-requires : (t : ℕ) → subtree-lts.Need-read-entry-requires (
+  read-entry-reads.Asked,
+  read-entry-reads.Learnt,
+  walk-container-below t,
+  walk-container.Post,
+) (subtree-at t) subtree.Post
+subtree-read-entry-requires t c κs = search walk-laws
+
+-- src/walk.rt:140:23
+subtree-enum-told : (t : ℕ) → subtree-lts.Need-enum-told (
+  read-entry-reads.Asked,
+  read-entry-reads.Learnt,
+  walk-container-below t,
+  walk-container.Post,
+) (subtree-at t) subtree.Post
+subtree-enum-told t c = search walk-laws
+
+-- src/walk.rt:141:24
+subtree-enum-told-2 : (t : ℕ) → subtree-lts.Need-enum-told-2 (
+  read-entry-reads.Asked,
+  read-entry-reads.Learnt,
+  walk-container-below t,
+  walk-container.Post,
+) (subtree-at t) subtree.Post
+subtree-enum-told-2 t c = search walk-laws
+
+-- src/walk.rt:141:24
+subtree-walk-container-requires : (t : ℕ) → subtree-lts.Need-walk-container-requires (
+  read-entry-reads.Asked,
+  read-entry-reads.Learnt,
+  walk-container-below t,
+  walk-container.Post,
+) (subtree-at t) subtree.Post
+subtree-walk-container-requires t c κs = search walk-laws
+
+-- src/walk.rt:142:23
+subtree-enum-known-s : (t : ℕ) → subtree-lts.Need-enum-known-s (
+  read-entry-reads.Asked,
+  read-entry-reads.Learnt,
+  walk-container-below t,
+  walk-container.Post,
+) (subtree-at t) subtree.Post
+subtree-enum-known-s t c = search walk-laws
+
+-- src/walk.rt:134:1
+subtree-returns : (t : ℕ) → subtree-lts.Need-returns (
+  read-entry-reads.Asked,
+  read-entry-reads.Learnt,
+  walk-container-below t,
+  walk-container.Post,
+) (subtree-at t) subtree.Post
+subtree-returns t c = search walk-laws
+
+-- src/walk.rt:134:1
+subtree-returns-2 : (t : ℕ) → subtree-lts.Need-returns-2 (
+  read-entry-reads.Asked,
+  read-entry-reads.Learnt,
+  walk-container-below t,
+  walk-container.Post,
+) (subtree-at t) subtree.Post
+subtree-returns-2 t c = search walk-laws
+
+-- src/walk.rt:134:1
+subtree-returns-3 : (t : ℕ) → subtree-lts.Need-returns-3 (
+  read-entry-reads.Asked,
+  read-entry-reads.Learnt,
+  walk-container-below t,
+  walk-container.Post,
+) (subtree-at t) subtree.Post
+subtree-returns-3 t c = search walk-laws
+
+abbrev walk-container-Inv-loop : walk-container-lts.InvT-loop
+walk-container-Inv-loop doc a levels o first count left₀ at₀ due₀ left at due = Entered doc a levels o left at due
+
+abbrev walk-container-μ-loop : walk-container-lts.MeasureT-loop
+walk-container-μ-loop doc a levels o first count left₀ at₀ due₀ left at due = left
+
+-- src/walk.rt:152:9
+walk-container-returns : (t : ℕ) → walk-container-lts.Need-returns (
+  open-container-reads.Asked,
+  open-container-reads.Learnt,
+  subtree-below t,
+  subtree.Post,
+) (walk-container-at t) walk-container.Post walk-container-Inv-loop walk-container-μ-loop
+walk-container-returns t c = search walk-laws
+
+-- src/walk.rt:154:9
+walk-container-open-container-requires : (t : ℕ) → walk-container-lts.Need-open-container-requires (
+  open-container-reads.Asked,
+  open-container-reads.Learnt,
+  subtree-below t,
+  subtree.Post,
+) (walk-container-at t) walk-container.Post walk-container-Inv-loop walk-container-μ-loop
+walk-container-open-container-requires t c κs = search walk-laws
+
+-- src/walk.rt:156:26
+walk-container-enum-known-h : (t : ℕ) → walk-container-lts.Need-enum-known-h (
+  open-container-reads.Asked,
+  open-container-reads.Learnt,
+  subtree-below t,
+  subtree.Post,
+) (walk-container-at t) walk-container.Post walk-container-Inv-loop walk-container-μ-loop
+walk-container-enum-known-h t c = search walk-laws
+
+-- src/walk.rt:157:25
+walk-container-enum-known-h-2 : (t : ℕ) → walk-container-lts.Need-enum-known-h-2 (
+  open-container-reads.Asked,
+  open-container-reads.Learnt,
+  subtree-below t,
+  subtree.Post,
+) (walk-container-at t) walk-container.Post walk-container-Inv-loop walk-container-μ-loop
+walk-container-enum-known-h-2 t c = search walk-laws
+
+-- src/walk.rt:160:35
+walk-container-mul-due : (t : ℕ) → walk-container-lts.Need-mul-due (
+  open-container-reads.Asked,
+  open-container-reads.Learnt,
+  subtree-below t,
+  subtree.Post,
+) (walk-container-at t) walk-container.Post walk-container-Inv-loop walk-container-μ-loop
+walk-container-mul-due t c = search walk-laws
+
+-- src/walk.rt:160:27
+walk-container-add-due : (t : ℕ) → walk-container-lts.Need-add-due (
+  open-container-reads.Asked,
+  open-container-reads.Learnt,
+  subtree-below t,
+  subtree.Post,
+) (walk-container-at t) walk-container.Post walk-container-Inv-loop walk-container-μ-loop
+walk-container-add-due t c = search walk-laws
+
+-- src/walk.rt:161:13
+walk-container-loop-holds : (t : ℕ) → walk-container-lts.Need-loop-holds (
+  open-container-reads.Asked,
+  open-container-reads.Learnt,
+  subtree-below t,
+  subtree.Post,
+) (walk-container-at t) walk-container.Post walk-container-Inv-loop walk-container-μ-loop
+walk-container-loop-holds t c = search walk-laws
+
+-- src/walk.rt:162:41
+walk-container-sub-subtree : (t : ℕ) → walk-container-lts.Need-sub-subtree (
+  open-container-reads.Asked,
+  open-container-reads.Learnt,
+  subtree-below t,
+  subtree.Post,
+) (walk-container-at t) walk-container.Post walk-container-Inv-loop walk-container-μ-loop
+walk-container-sub-subtree t c = search walk-laws
+
+-- src/walk.rt:162:21
+walk-container-subtree-requires : (t : ℕ) → walk-container-lts.Need-subtree-requires (
+  open-container-reads.Asked,
+  open-container-reads.Learnt,
+  subtree-below t,
+  subtree.Post,
+) (walk-container-at t) walk-container.Post walk-container-Inv-loop walk-container-μ-loop
+walk-container-subtree-requires t c κs = search walk-laws
+
+-- src/walk.rt:164:31
+walk-container-enum-known-t : (t : ℕ) → walk-container-lts.Need-enum-known-t (
+  open-container-reads.Asked,
+  open-container-reads.Learnt,
+  subtree-below t,
+  subtree.Post,
+) (walk-container-at t) walk-container.Post walk-container-Inv-loop walk-container-μ-loop
+walk-container-enum-known-t t c = search walk-laws
+
+-- src/walk.rt:167:35
+walk-container-enum-known-t-2 : (t : ℕ) → walk-container-lts.Need-enum-known-t-2 (
+  open-container-reads.Asked,
+  open-container-reads.Learnt,
+  subtree-below t,
+  subtree.Post,
+) (walk-container-at t) walk-container.Post walk-container-Inv-loop walk-container-μ-loop
+walk-container-enum-known-t-2 t c = search walk-laws
+
+-- src/walk.rt:168:25
+walk-container-returns-2 : (t : ℕ) → walk-container-lts.Need-returns-2 (
+  open-container-reads.Asked,
+  open-container-reads.Learnt,
+  subtree-below t,
+  subtree.Post,
+) (walk-container-at t) walk-container.Post walk-container-Inv-loop walk-container-μ-loop
+walk-container-returns-2 t c = search walk-laws
+
+-- src/walk.rt:171:17
+walk-container-add-at : (t : ℕ) → walk-container-lts.Need-add-at (
+  open-container-reads.Asked,
+  open-container-reads.Learnt,
+  subtree-below t,
+  subtree.Post,
+) (walk-container-at t) walk-container.Post walk-container-Inv-loop walk-container-μ-loop
+walk-container-add-at t c = search walk-laws
+
+-- src/walk.rt:172:17
+walk-container-sub-left : (t : ℕ) → walk-container-lts.Need-sub-left (
+  open-container-reads.Asked,
+  open-container-reads.Learnt,
+  subtree-below t,
+  subtree.Post,
+) (walk-container-at t) walk-container.Post walk-container-Inv-loop walk-container-μ-loop
+walk-container-sub-left t c = search walk-laws
+
+-- src/walk.rt:161:13
+walk-container-loop-less : (t : ℕ) → walk-container-lts.Need-loop-less (
+  open-container-reads.Asked,
+  open-container-reads.Learnt,
+  subtree-below t,
+  subtree.Post,
+) (walk-container-at t) walk-container.Post walk-container-Inv-loop walk-container-μ-loop
+walk-container-loop-less t c = search walk-laws
+
+-- src/walk.rt:161:13
+walk-container-loop-again : (t : ℕ) → walk-container-lts.Need-loop-again (
+  open-container-reads.Asked,
+  open-container-reads.Learnt,
+  subtree-below t,
+  subtree.Post,
+) (walk-container-at t) walk-container.Post walk-container-Inv-loop walk-container-μ-loop
+walk-container-loop-again t c = search walk-laws
+
+-- src/walk.rt:147:1
+walk-container-returns-3 : (t : ℕ) → walk-container-lts.Need-returns-3 (
+  open-container-reads.Asked,
+  open-container-reads.Learnt,
+  subtree-below t,
+  subtree.Post,
+) (walk-container-at t) walk-container.Post walk-container-Inv-loop walk-container-μ-loop
+walk-container-returns-3 t c = search walk-laws
+
+-- src/walk.rt:147:1
+walk-container-returns-4 : (t : ℕ) → walk-container-lts.Need-returns-4 (
+  open-container-reads.Asked,
+  open-container-reads.Learnt,
+  subtree-below t,
+  subtree.Post,
+) (walk-container-at t) walk-container.Post walk-container-Inv-loop walk-container-μ-loop
+walk-container-returns-4 t c = search walk-laws
+
+pub +subtree+walk-container-spec : {M : Type 1} → statement M
++subtree+walk-container-spec = close μ-subtree μ-walk-container (λ t. subtree-lts.spec (
+  read-entry-reads.Asked,
+  read-entry-reads.Learnt,
+  walk-container-below t,
+  walk-container.Post,
+)
+    (subtree-at t)
+    subtree.Post
+    (subtree-read-entry-requires t)
+    (subtree-enum-told t)
+    (subtree-enum-told-2 t)
+    (subtree-walk-container-requires t)
+    (subtree-enum-known-s t)
+    (subtree-returns t)
+    (subtree-returns-2 t)
+    (subtree-returns-3 t))
+    λ t. walk-container-lts.spec
+    (open-container-reads.Asked, open-container-reads.Learnt, subtree-below t, subtree.Post)
+    (walk-container-at t)
+    walk-container.Post
+    walk-container-Inv-loop
+    walk-container-μ-loop
+    (walk-container-returns t)
+    (walk-container-open-container-requires t)
+    (walk-container-enum-known-h t)
+    (walk-container-enum-known-h-2 t)
+    (walk-container-mul-due t)
+    (walk-container-add-due t)
+    (walk-container-loop-holds t)
+    (walk-container-sub-subtree t)
+    (walk-container-subtree-requires t)
+    (walk-container-enum-known-t t)
+    (walk-container-enum-known-t-2 t)
+    (walk-container-returns-2 t)
+    (walk-container-add-at t)
+    (walk-container-sub-left t)
+    (walk-container-loop-less t)
+    (walk-container-loop-again t)
+    (walk-container-returns-3 t)
+    (walk-container-returns-4 t)

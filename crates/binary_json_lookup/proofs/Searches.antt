@@ -1,0 +1,371 @@
+-- Both halvings and the scan, one law for each way through the functions of `lookup`.
+use mathlib.Core.Path.{_≡_, refl, sym, ap, _∙_}
+use mathlib.Core.Bool.{true}
+use mathlib.Core.List.{List}
+use Prim.Native.Nat.{ℕ, zero, suc, _+_, _-_, _*_, _≤_, _<_}
+use native.Mathlib.Omega.{arith}
+use borrow.Author.Needs.{needs}
+use borrow.Author.Tests.{lt-ltb, le-ltb}
+use lib.Dec.{ltb}
+use lib.ListN.{length, take, drop}
+use mir.Syntax.{w64}
+use mir.Val.{Fits}
+use Rattle.json.specs.Bytes.{part}
+use Rattle.json.specs.Choose.{choose}
+use Rattle.json.specs.Reading.{Asked, ask, answers, refuses, answer, _>>=_}
+use Rattle.json.specs.Span as Text
+use Rattle.json.specs.Texts.{compareTexts, isEqual}
+use Rattle.json.specs.declared.Order.{Order}
+use Rattle.json.specs.declared.Order.the-variants.{Below, Equal, Above}
+use Rattle.json.specs.declared.Refusal.{Refusal}
+use Rattle.json.proofs.Reading.{then, stops}
+use Rattle.json.proofs.Texts.{numbers-below, numbers-equal, numbers-above}
+use Rattle.binary_json_rules.specs.Areas.{word, count, slot}
+use Rattle.binary_json_rules.specs.Meaning.{SlotIs}
+use Rattle.binary_json_rules.specs.Questions.{slotRead, textNamed, entryOf}
+use Rattle.binary_json_rules.specs.Halving.{Item, compares, unreadable, Halved, found, missed, broken, middle, turn, halveIf, halveFrom, halve}
+use Rattle.binary_json_rules.specs.Lookup.{entry, absent, stringItem, strings, keyItem, keys, Counted, counted, afterKeys, afterStrings, quickLookup, scanFrom, plainScan}
+use Rattle.binary_json_rules.proofs.Complete.{slot-named}
+use Rattle.binary_json_rules.proofs.Trees.{slot-at}
+use Rattle.binary_json_areas.specs.Laid.{Laid}
+use Rattle.binary_json_areas.specs.Naming.{TextNamed}
+use Rattle.binary_json_questions.specs.Objects.{ObjectAt, ObjectRead}
+use Rattle.binary_json_lookup.specs.Lookups.{TextCompared, toldItem, stringItems, toldHalving, Within}
+use Rattle.binary_json_areas.specs.declared.areas.Areas.{Areas}
+use Rattle.binary_json_lookup.specs.declared.lookup.Compared.{Compared}
+use Rattle.binary_json_lookup.specs.declared.lookup.Halving.{Halving}
+use Rattle.binary_json_areas.specs.declared.named.Texted.{Texted}
+use Rattle.binary_json_questions.specs.declared.questions.Object.{Object}
+use Rattle.binary_json_areas.proofs.Headers.{slot-is}
+
+-- ---- a text against a key
+
+module _ (doc : List ℕ) (v : ℕ) (x : List ℕ) (t : Texted) (h : TextNamed doc v t) where
+  pub text-bad : t ≡ Texted.Bad → TextCompared doc v x Compared.Bad
+  text-bad e = rw e at h
+
+  pub bytes-inside : (p l : ℕ) → t ≡ Texted.At p l → p + l ≤ length doc
+  bytes-inside p l e = let z : TextNamed doc v (Texted.At p l) = rw e at h in z .0
+
+  pub text-compared : (p l : ℕ) (b : List ℕ) (o : Order) → t ≡ Texted.At p l → b ≡ part doc p l → o ≡ compareTexts b x → TextCompared doc v x (Compared.Of o)
+  text-compared p l b o e q r =
+      let z : TextNamed doc v (Texted.At p l) = rw e at h in
+      (record { place = p; len = l }, z .1, r ∙ ap (λ y. compareTexts y x) q)
+
+pub bytes-are : (doc : List ℕ) (p l : ℕ) → take (p + l - p) (drop p doc) ≡ part doc p l
+bytes-are doc p l = let q : p + l - p ≡ l = omega arith in rw q
+
+pub ruleset text-laws = (bytes-are, text-bad, bytes-inside, text-compared, needs)
+
+-- string k, whose slot stands at S+4+4k
+slot-of : (doc : List ℕ) (a : Areas) (k c : ℕ) → Laid doc a → k < a .count → ask (textNamed doc (a .index + 4 + 4 * k) c) ≡ ask (slotRead doc k c)
+unfolding textNamed
+slot-of doc a k c x b =
+    let e = slot-is doc (a .index) (a .count) k (x .framed) in
+    let n = x .framed .count-is in
+    let b′ : k < count doc = omega arith in
+    let is : SlotIs doc (a .index + 4 + 4 * k) k = record { counted = b′; place = e } in
+    then _ _ tt (slot-named doc tt (a .index + 4 + 4 * k) 20 c k is) ∙ rw (slot-at doc (a .index + 4 + 4 * k) k is)
+
+compared-item : (doc : List ℕ) (v k : ℕ) (x : List ℕ) (r : Compared) → TextCompared doc v x r → ((c : ℕ) → ask (textNamed doc v c) ≡ ask (slotRead doc k c)) → toldItem r ≡ stringItems doc x k
+unfolding stringItems
+compared-item doc v k x Compared.Bad h e = ap (stringItem doc x) (sym (h 0) ∙ e 0)
+compared-item doc v k x (Compared.Of o) h e = ap compares (h .2) ∙ ap (stringItem doc x) (sym (h .1 0) ∙ e 0)
+
+pub string-compared : (doc : List ℕ) (a : Areas) (k : ℕ) (x : List ℕ) (r : Compared) → Laid doc a → k < a .count → TextCompared doc (a .index + 4 + 4 * k) x r → toldItem r ≡ stringItems doc x k
+string-compared doc a k x r l b h = compared-item doc (a .index + 4 + 4 * k) k x r h (λ c. slot-of doc a k c l b)
+
+pub string-fits : (doc : List ℕ) (a : Areas) (k : ℕ) → Laid doc a → k < a .count → Fits w64 (a .index + 4 + 4 * k)
+string-fits doc a k x b = let s = x .framed .slots-inside in let l = x .framed .short in omega arith
+
+pub ruleset string-laws = (string-compared, string-fits, needs)
+
+-- ---- halving
+
+-- a halving over m items has come to low and high after so many turns
+pub record Going (item : ℕ → Item) (m low high turns : ℕ) : Type 0 where
+  pub most : ℕ
+  pub enough : high - low ≤ most
+  pub same : halveFrom most item low high turns ≡ halve item m
+  pub ordered : low ≤ high
+  pub upto : high ≤ m
+  pub few : turns + (high - low) ≤ m
+
+going-first : (item : ℕ → Item) (m : ℕ) → Going item m 0 m 0
+unfolding halve
+going-first item m = record { most = m; enough = omega arith; same = refl; ordered = omega arith; upto = omega arith; few = omega arith }
+
+ltb-yes : (m n : ℕ) → m < n → ltb m n ≡ true
+ltb-yes m n h = lt-ltb m n h
+
+module _ (item : ℕ → Item) (m low high turns : ℕ) (g : Going item m low high turns) where
+  one-turn : (most : ℕ) → low < high → halveFrom (suc most) item low high turns ≡ turn (halveFrom most item) low (middle low high) high turns (item (middle low high))
+  unfolding halveFrom halveIf
+  one-turn most h = rw (ltb-yes low high h)
+
+  went : low < high → (f : ℕ) × (high - low ≤ suc f) × (turn (halveFrom f item) low (middle low high) high turns (item (middle low high)) ≡ halve item m)
+  went h =
+      let f = g .most - 1 in
+      let b = g .enough in
+      let e : g .most ≡ suc f = omega arith in
+      (f, omega arith, sym (one-turn f h) ∙ (ap (λ k. halveFrom k item low high turns) (sym e) ∙ g .same))
+
+  going-up : low < high → item (middle low high) ≡ compares Below → Going item m (middle low high + 1) high (turns + 1)
+  unfolding turn
+  going-up h e =
+      let (f, b, s) = went h in
+      let u = g .upto in let w = g .few in
+      record { most = f; enough = omega arith; same = rw e at s; ordered = omega arith; upto = u; few = omega arith }
+
+  going-down : low < high → item (middle low high) ≡ compares Above → Going item m low (middle low high) (turns + 1)
+  unfolding turn
+  going-down h e =
+      let (f, b, s) = went h in
+      let u = g .upto in let w = g .few in
+      record { most = f; enough = omega arith; same = rw e at s; ordered = omega arith; upto = omega arith; few = omega arith }
+
+  going-found : low < high → item (middle low high) ≡ compares Equal → found (middle low high) (turns + 1) ≡ halve item m
+  unfolding turn
+  going-found h e = let (f, b, s) = went h in rw e at s
+
+  going-broken : low < high → item (middle low high) ≡ unreadable → broken ≡ halve item m
+  unfolding turn
+  going-broken h e = let (f, b, s) = went h in rw e at s
+
+  stopped : (most : ℕ) → high ≤ low → halveFrom most item low high turns ≡ missed low turns
+  unfolding halveFrom halveIf
+  stopped zero h = refl
+  stopped (suc most) h = rw (le-ltb low high h)
+
+  going-missed : high ≤ low → missed low turns ≡ halve item m
+  going-missed h = sym (stopped (g .most) h) ∙ g .same
+
+-- ---- the strings
+
+strings-are : (doc x : List ℕ) (a : Areas) → Laid doc a → halve (stringItems doc x) (a .count) ≡ strings doc x
+unfolding stringItems
+strings-are doc x a l = ap (halve (stringItems doc x)) (l .framed .count-is)
+
+pub strings-first : (doc x : List ℕ) (a : Areas) → Going (stringItems doc x) (a .count) 0 (a .count) 0
+strings-first doc x a = going-first (stringItems doc x) (a .count)
+
+module _ (doc x : List ℕ) (a : Areas) (l : Laid doc a) (low high turns : ℕ) (g : Going (stringItems doc x) (a .count) low high turns) where
+  pub middle-string : low < high → middle low high < a .count
+  middle-string h = let u = g .upto in omega arith
+
+  pub turns-fit : low < high → Fits w64 (turns + 1)
+  turns-fit h = let w = g .few in let s = l .framed .slots-inside in let b = l .framed .short in omega arith
+
+  pub middle-fits : low < high → Fits w64 (middle low high)
+  middle-fits h = let u = g .upto in let s = l .framed .slots-inside in let b = l .framed .short in omega arith
+
+  pub next-fits : low < high → Fits w64 (middle low high + 1)
+  next-fits h = let u = g .upto in let s = l .framed .slots-inside in let b = l .framed .short in omega arith
+
+  module _ (h : low < high) (r : Compared) (q : toldItem r ≡ stringItems doc x (middle low high)) where
+    pub string-bad : r ≡ Compared.Bad → broken ≡ strings doc x
+    string-bad e = going-broken (stringItems doc x) (a .count) low high turns g h (sym q ∙ ap toldItem e) ∙ strings-are doc x a l
+
+    module _ (o : Order) (e : r ≡ Compared.Of o) where
+      pub string-below : o ≡ Below → Going (stringItems doc x) (a .count) (middle low high + 1) high (turns + 1)
+      string-below w = going-up (stringItems doc x) (a .count) low high turns g h (sym q ∙ (ap toldItem e ∙ ap compares w))
+
+      pub string-above : o ≡ Above → Going (stringItems doc x) (a .count) low (middle low high) (turns + 1)
+      string-above w = going-down (stringItems doc x) (a .count) low high turns g h (sym q ∙ (ap toldItem e ∙ ap compares w))
+
+      pub string-found : o ≡ Equal → found (middle low high) (turns + 1) ≡ strings doc x
+      string-found w = going-found (stringItems doc x) (a .count) low high turns g h (sym q ∙ (ap toldItem e ∙ ap compares w)) ∙ strings-are doc x a l
+
+  pub string-missed : high ≤ low → missed low turns ≡ strings doc x
+  string-missed h = going-missed (stringItems doc x) (a .count) low high turns g h ∙ strings-are doc x a l
+
+  pub missed-within : low ≤ a .count
+  missed-within = let u = g .upto in let o = g .ordered in omega arith
+
+pub ruleset strings-laws = (strings-first, middle-string, turns-fit, middle-fits, next-fits, string-bad, string-below, string-above, string-found, string-missed, missed-within, needs)
+
+-- ---- the KeyEntries
+
+pub keys-first : (doc : List ℕ) (c n v : ℕ) → Going (keyItem doc c v) n 0 n 0
+keys-first doc c n v = going-first (keyItem doc c v) n
+
+module _ (doc : List ℕ) (c n v low high turns : ℕ) (g : Going (keyItem doc c v) n low high turns) where
+  module _ (a : Areas) (x : ObjectAt doc a c n) (h : low < high) where
+    pub key-inside : c + 4 + 4 * middle low high + 4 ≤ length doc
+    key-inside = let u = g .upto in let i = x .inside in let s = x .laid .framed .slots-inside in omega arith
+
+    pub key-fits : Fits w64 (c + 4 + 4 * middle low high)
+    key-fits = let u = g .upto in let i = x .inside in let s = x .laid .framed .slots-inside in let b = x .laid .framed .short in omega arith
+
+    pub key-turns-fit : Fits w64 (turns + 1)
+    key-turns-fit = let w = g .few in let i = x .inside in let s = x .laid .framed .slots-inside in let b = x .laid .framed .short in omega arith
+
+    pub key-next-fits : Fits w64 (middle low high + 1)
+    key-next-fits = let u = g .upto in let i = x .inside in let s = x .laid .framed .slots-inside in let b = x .laid .framed .short in omega arith
+
+  module _ (h : low < high) (w : ℕ) (e : w ≡ word doc (c + 4 + 4 * middle low high)) where
+    pub key-found : w ≡ v → found (middle low high) (turns + 1) ≡ keys doc c n v
+    key-found q = going-found (keyItem doc c v) n low high turns g h (ap compares (numbers-equal _ _ .1 (sym e ∙ q)))
+
+    pub key-within : middle low high < n
+    key-within = let u = g .upto in omega arith
+
+    pub key-below : w < v → Going (keyItem doc c v) n (middle low high + 1) high (turns + 1)
+    key-below q = going-up (keyItem doc c v) n low high turns g h (ap compares (numbers-below _ _ .1 (rw e at q)))
+
+    pub key-above : (w ≡ v → ⊥) → v ≤ w → Going (keyItem doc c v) n low (middle low high) (turns + 1)
+    key-above q r = let l : v < w = omega arith in going-down (keyItem doc c v) n low high turns g h (ap compares (numbers-above _ _ .1 (rw e at l)))
+
+  pub key-missed : high ≤ low → missed low turns ≡ keys doc c n v
+  key-missed h = going-missed (keyItem doc c v) n low high turns g h
+
+  pub key-end-within : low ≤ n
+  key-end-within = let u = g .upto in let o = g .ordered in omega arith
+
+pub ruleset keys-laws = (keys-first, key-inside, key-fits, key-turns-fit, key-next-fits, key-found, key-within, key-below, key-above, key-missed, key-end-within, needs)
+
+-- ---- the quick lookup
+
+module _ (doc : List ℕ) (a : Areas) (c n k first : ℕ) (x : ObjectAt doc a c n) (b : k < a .count) where
+  pub sought-fits : Fits w64 (a .index + 4 + 4 * k)
+  sought-fits = let s = x .laid .framed .slots-inside in let l = x .laid .framed .short in omega arith
+
+  module _ (f : Halving) (h : toldHalving f ≡ keys doc c n (a .index + 4 + 4 * k)) where
+    from-keys : (y : Halved) → toldHalving f ≡ y → ask (afterKeys c n first y) ≡ ask (afterKeys c n first (keys doc c n (slot doc k)))
+    from-keys y e = ap (λ z. ask (afterKeys c n first z)) (sym e ∙ (h ∙ ap (keys doc c n) (slot-is doc (a .index) (a .count) k (x .laid .framed))))
+
+    pub key-looked : (at turns : ℕ) → f ≡ Halving.Found at turns → answers (counted (entry (c + 4 + 4 * n + 4 * at)) first turns) ≡ ask (afterKeys c n first (keys doc c n (slot doc k)))
+    unfolding afterKeys
+    key-looked at turns e = from-keys (found at turns) (ap toldHalving e)
+
+    pub key-not-looked : (at turns : ℕ) → f ≡ Halving.Missed at turns → answers (counted absent first turns) ≡ ask (afterKeys c n first (keys doc c n (slot doc k)))
+    unfolding afterKeys
+    key-not-looked at turns e = from-keys (missed at turns) (ap toldHalving e)
+
+    pub key-broken : f ≡ Halving.Broken → refuses 20 c ≡ ask (afterKeys c n first (keys doc c n (slot doc k)))
+    unfolding afterKeys
+    key-broken e = from-keys broken (ap toldHalving e)
+
+  module _ (f : Halving) (w : Within f n) (at turns : ℕ) (e : f ≡ Halving.Found at turns) where
+    at-below : at < n
+    at-below = rw e at w
+
+    pub found-begin-fits : Fits w64 (c + 4)
+    found-begin-fits = let i = x .inside in let s = x .laid .framed .slots-inside in let l = x .laid .framed .short in omega arith
+
+    pub found-keys-fit : Fits w64 (4 * n)
+    found-keys-fit = let i = x .inside in let s = x .laid .framed .slots-inside in let l = x .laid .framed .short in omega arith
+
+    pub found-entries-fit : Fits w64 (c + 4 + 4 * n)
+    found-entries-fit = let i = x .inside in let s = x .laid .framed .slots-inside in let l = x .laid .framed .short in omega arith
+
+    pub found-step-fits : Fits w64 (4 * at)
+    found-step-fits = let q = at-below in let i = x .inside in let s = x .laid .framed .slots-inside in let l = x .laid .framed .short in omega arith
+
+    pub found-entry-fits : Fits w64 (c + 4 + 4 * n + 4 * at)
+    found-entry-fits = let q = at-below in let i = x .inside in let s = x .laid .framed .slots-inside in let l = x .laid .framed .short in omega arith
+
+pub ruleset look-key-laws = (sought-fits, key-looked, key-not-looked, key-broken, found-begin-fits, found-keys-fit, found-entries-fit, found-step-fits, found-entry-fits, needs)
+
+module _ (doc : List ℕ) (a : Areas) (c n : ℕ) (key : List ℕ) (x : ObjectAt doc a c n) (s : Halving) where
+  pub string-within : (at turns : ℕ) → Within s (a .count) → s ≡ Halving.Found at turns → at < a .count
+  string-within at turns w e = rw e at w
+
+  pub object-areas : Laid doc a
+  object-areas = x .laid
+
+  module _ (h : toldHalving s ≡ strings doc key) where
+    to-strings : (y : Halved) → toldHalving s ≡ y → ask (afterStrings doc c n y) ≡ ask (quickLookup doc c key)
+    unfolding quickLookup
+    to-strings y e = ap (λ z. ask (afterStrings doc c n z)) (sym e ∙ h) ∙ sym (then _ _ tt (x .answered))
+
+    pub string-looked : (at turns : ℕ) (r : Asked Counted) → s ≡ Halving.Found at turns → r ≡ ask (afterKeys c n turns (keys doc c n (slot doc at))) → r ≡ ask (quickLookup doc c key)
+    unfolding afterStrings
+    string-looked at turns r e q = q ∙ to-strings (found at turns) (ap toldHalving e)
+
+    pub string-not-looked : (at turns : ℕ) → s ≡ Halving.Missed at turns → answers (counted absent turns 0) ≡ ask (quickLookup doc c key)
+    unfolding afterStrings
+    string-not-looked at turns e = to-strings (missed at turns) (ap toldHalving e)
+
+    pub string-broken : s ≡ Halving.Broken → refuses 20 c ≡ ask (quickLookup doc c key)
+    unfolding afterStrings
+    string-broken e = to-strings broken (ap toldHalving e)
+
+pub ruleset look-laws = (object-areas, string-within, string-looked, string-not-looked, string-broken, needs)
+
+module _ (doc : List ℕ) (c : ℕ) (key : List ℕ) (o : Object) (x : ObjectRead doc c o) where
+  pub an-object : (a : Areas) (n : ℕ) → o ≡ Object.Of a n → ObjectAt doc a c n
+  an-object a n e = rw e at x
+
+  pub lookup-stops : (r : Refusal) → o ≡ Object.Refused r → refuses (r .number) (r .place) ≡ ask (quickLookup doc c key)
+  unfolding quickLookup
+  lookup-stops r e = sym (stops _ _ tt (rw e at x))
+
+  pub scan-stops : (r : Refusal) → o ≡ Object.Refused r → refuses (r .number) (r .place) ≡ ask (plainScan doc c key)
+  unfolding plainScan
+  scan-stops r e = sym (stops _ _ tt (rw e at x))
+
+pub ruleset lookup-laws = (an-object, lookup-stops, scan-stops, needs)
+
+-- ---- the plain scan
+
+-- the members from j on are all that is left
+pub record Scanning (doc : List ℕ) (c n : ℕ) (key : List ℕ) (j : ℕ) : Type 0 where
+  pub upto : j ≤ n
+  pub same : ask (scanFrom doc c n key (n - j) j) ≡ ask (plainScan doc c key)
+
+pub scan-first : (doc : List ℕ) (a : Areas) (c n : ℕ) (key : List ℕ) → ObjectAt doc a c n → Scanning doc c n key 0
+unfolding plainScan
+scan-first doc a c n key x = record { upto = omega arith; same = let z : n - 0 ≡ n = omega arith in rw z (sym (then _ _ tt (x .answered))) }
+
+scan-suc : (doc : List ℕ) (c n : ℕ) (key : List ℕ) (l j v : ℕ) → v ≡ word doc (c + 4 + 4 * j)
+    → ask (scanFrom doc c n key (suc l) j) ≡ ask (textNamed doc v c >>= λ s. choose (isEqual (compareTexts (part doc (s .place) (s .len)) key)) (answer (entry (entryOf c n j))) (scanFrom doc c n key l (j + 1)))
+unfolding scanFrom
+scan-suc doc c n key l j v e = rw e
+
+module _ (doc : List ℕ) (c n : ℕ) (key : List ℕ) (j : ℕ) (x : Scanning doc c n key j) where
+  module _ (a : Areas) (y : ObjectAt doc a c n) (b : j < n) where
+    pub scan-inside : c + 4 + 4 * j + 4 ≤ length doc
+    scan-inside = let i = y .inside in let s = y .laid .framed .slots-inside in omega arith
+
+    pub scan-key-fits : Fits w64 (c + 4 + 4 * j)
+    scan-key-fits = let i = y .inside in let s = y .laid .framed .slots-inside in let l = y .laid .framed .short in omega arith
+
+    pub scan-entries-fit : Fits w64 (c + 4 + 4 * n)
+    scan-entries-fit = let i = y .inside in let s = y .laid .framed .slots-inside in let l = y .laid .framed .short in omega arith
+
+    pub scan-entry-fits : Fits w64 (c + 4 + 4 * n + 4 * j)
+    scan-entry-fits = let i = y .inside in let s = y .laid .framed .slots-inside in let l = y .laid .framed .short in omega arith
+
+  module _ (b : j < n) (v : ℕ) (e : v ≡ word doc (c + 4 + 4 * j)) (r : Compared) (h : TextCompared doc v key r) where
+    one-member : ask (textNamed doc v c >>= λ s. choose (isEqual (compareTexts (part doc (s .place) (s .len)) key)) (answer (entry (entryOf c n j))) (scanFrom doc c n key (n - (j + 1)) (j + 1))) ≡ ask (plainScan doc c key)
+    one-member =
+        let q : n - j ≡ suc (n - (j + 1)) = omega arith in
+        sym (ap (λ l. ask (scanFrom doc c n key l j)) q ∙ scan-suc doc c n key (n - (j + 1)) j v e) ∙ x .same
+
+    pub scan-bad : r ≡ Compared.Bad → refuses 20 c ≡ ask (plainScan doc c key)
+    scan-bad q = sym (stops _ _ tt ((rw q at h) c)) ∙ one-member
+
+    module _ (o : Order) (q : r ≡ Compared.Of o) where
+      chosen : choose (isEqual o) (answer (entry (entryOf c n j))) (scanFrom doc c n key (n - (j + 1)) (j + 1)) tt ≡ ask (plainScan doc c key)
+      chosen =
+          let z : TextCompared doc v key (Compared.Of o) = rw q at h in
+          sym (then _ _ tt (z .1 c) ∙ rw (sym (z .2))) ∙ one-member
+
+      pub scan-found : o ≡ Equal → answers (entry (c + 4 + 4 * n + 4 * j)) ≡ ask (plainScan doc c key)
+      unfolding choose
+      scan-found w = rw w at chosen
+
+      pub scan-below : o ≡ Below → Scanning doc c n key (j + 1)
+      unfolding choose
+      scan-below w = record { upto = omega arith; same = rw w at chosen }
+
+      pub scan-above : o ≡ Above → Scanning doc c n key (j + 1)
+      unfolding choose
+      scan-above w = record { upto = omega arith; same = rw w at chosen }
+
+  pub scan-done : n ≤ j → answers absent ≡ ask (plainScan doc c key)
+  unfolding scanFrom
+  scan-done h = let z : n - j ≡ 0 = let u = x .upto in omega arith in rw z at (x .same)
+
+pub ruleset scan-laws = (scan-first, object-areas, scan-inside, scan-key-fits, scan-entries-fit, scan-entry-fits, scan-bad, scan-found, scan-below, scan-above, scan-done, needs)

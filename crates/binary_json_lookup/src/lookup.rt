@@ -1,0 +1,218 @@
+// Looking a key up in an object: by halving, with both counts, and by a plain scan.
+use binary_json_areas::areas::Areas;
+use binary_json_areas::named::Texted;
+use binary_json_areas::offsets::SlotOffset;
+use binary_json_areas::offsets::TreeOffset;
+use binary_json_questions::answers::Looked;
+use binary_json_questions::answers::Scanned;
+use binary_json_questions::questions::Object;
+use json::Order;
+use json::Refusal;
+ghost use mathlib.Core.Path.{_≡_};
+ghost use Prim.Native.Nat.{_+_, _*_, _≤_, _<_};
+ghost use lib.ListN.{length};
+ghost use Rattle.json.specs.Bytes.{part};
+ghost use Rattle.json.specs.Reading.{ask};
+ghost use Rattle.binary_json_rules.specs.Areas.{slot};
+ghost use Rattle.binary_json_rules.specs.Lookup.{strings, keys, afterKeys, quickLookup, plainScan};
+ghost use Rattle.binary_json_areas.specs.Laid.{Laid};
+ghost use Rattle.binary_json_questions.specs.Objects.{ObjectAt};
+ghost use Rattle.binary_json_lookup.specs.Lookups.{TextCompared, toldItem, toldHalving, Within, stringItems};
+ghost use Rattle.binary_json_questions.specs.Told.{toldScan, toldLookup};
+
+// How an item compares with what is sought, or that it cannot be read.
+pub enum Compared {
+    Of(Order),
+    Bad,
+}
+
+// The bytes of a text.
+fn bytes(doc: &[u8], place: usize, len: usize) -> &[u8]
+    requires { ⌜ place + len ≤ length (now doc) ⌝ }
+    ensures { λ r. ⌜ now r ≡ part (now (doc .entry)) place len ⌝ }
+{
+    &doc[place..place + len]
+}
+
+// The text that an offset names, against a key.
+fn compare_text(doc: &[u8], a: Areas, at: SlotOffset, key: &[u8]) -> Compared
+    requires { ⌜ Laid (now doc) a ⌝ }
+    ensures { λ r. ⌜ TextCompared (now (doc .entry)) (at .0) (now (key .entry)) r ⌝ }
+{
+    let t = binary_json_areas::named::text_named(doc, a, at);
+    match t {
+        Texted::Bad => Compared::Bad,
+        Texted::At { place, len } => {
+            let o = text::compare(bytes(doc, place, len), key);
+            Compared::Of(o)
+        }
+    }
+}
+
+// Where a halving ended, and its number of comparisons.
+pub enum Halving {
+    Found { at: usize, turns: usize },
+    Missed { at: usize, turns: usize },
+    Broken,
+}
+
+// String k against a key.
+fn compare_string(doc: &[u8], a: Areas, k: usize, key: &[u8]) -> Compared
+    requires { ⌜ Laid (now doc) a × (k < a .count) ⌝ }
+    ensures { λ r. ⌜ toldItem r ≡ stringItems (now (doc .entry)) (now (key .entry)) k ⌝ }
+{
+    compare_text(doc, a, SlotOffset(a.index + 4 + 4 * k), key)
+}
+
+// Halves the strings for a key.
+fn find_string(doc: &[u8], a: Areas, key: &[u8]) -> Halving
+    requires { ⌜ Laid (now doc) a ⌝ }
+    ensures { λ r. ⌜ (toldHalving r ≡ strings (now (doc .entry)) (now (key .entry))) × Within r (a .count) ⌝ }
+{
+    let mut low = 0;
+    let mut high = a.count;
+    let mut turns = 0;
+    while low < high {
+        let mid = low + (high - low) / 2;
+        turns += 1;
+        let o = compare_string(doc, a, mid, key);
+        match o {
+            Compared::Bad => {
+                return Halving::Broken;
+            }
+            Compared::Of(order) => match order {
+                Order::Below => {
+                    low = mid + 1;
+                }
+                Order::Equal => {
+                    return Halving::Found { at: mid, turns };
+                }
+                Order::Above => {
+                    high = mid;
+                }
+            },
+        }
+    }
+    Halving::Missed { at: low, turns }
+}
+
+// Halves the n KeyEntries of the object at a place for a slot's offset, as numbers.
+fn find_key(doc: &[u8], a: Areas, c: usize, n: usize, sought: SlotOffset) -> Halving
+    requires { ⌜ ObjectAt (now doc) a c n ⌝ }
+    ensures { λ r. ⌜ (toldHalving r ≡ keys (now (doc .entry)) c n (sought .0)) × Within r n ⌝ }
+{
+    let v = sought.0;
+    let mut low = 0;
+    let mut high = n;
+    let mut turns = 0;
+    while low < high {
+        let mid = low + (high - low) / 2;
+        turns += 1;
+        let item = binary_json_areas::areas::word_at(doc, c + 4 + 4 * mid);
+        if item == v {
+            return Halving::Found { at: mid, turns };
+        }
+        if item < v {
+            low = mid + 1;
+        } else {
+            high = mid;
+        }
+    }
+    Halving::Missed { at: low, turns }
+}
+
+// After string k was found, with so many comparisons: its slot among the KeyEntries.
+fn look_key(doc: &[u8], a: Areas, c: usize, n: usize, k: usize, first: usize) -> Looked
+    requires { ⌜ ObjectAt (now doc) a c n × (k < a .count) ⌝ }
+    ensures { λ r. ⌜ toldLookup r ≡ ask (afterKeys c n first (keys (now (doc .entry)) c n (slot (now (doc .entry)) k))) ⌝ }
+{
+    let f = find_key(doc, a, c, n, SlotOffset(a.index + 4 + 4 * k));
+    match f {
+        Halving::Found { at, turns } => Looked::Entry {
+            at: TreeOffset(c + 4 + 4 * n + 4 * at),
+            first,
+            second: turns,
+        },
+        Halving::Missed { at: _, turns } => Looked::Absent {
+            first,
+            second: turns,
+        },
+        Halving::Broken => Looked::Refused(Refusal {
+            number: 20,
+            place: c,
+        }),
+    }
+}
+
+fn look(doc: &[u8], a: Areas, c: usize, n: usize, key: &[u8]) -> Looked
+    requires { ⌜ ObjectAt (now doc) a c n ⌝ }
+    ensures { λ r. ⌜ toldLookup r ≡ ask (quickLookup (now (doc .entry)) c (now (key .entry))) ⌝ }
+{
+    let s = find_string(doc, a, key);
+    match s {
+        Halving::Found { at, turns } => look_key(doc, a, c, n, at, turns),
+        Halving::Missed { at: _, turns } => Looked::Absent {
+            first: turns,
+            second: 0,
+        },
+        Halving::Broken => Looked::Refused(Refusal {
+            number: 20,
+            place: c,
+        }),
+    }
+}
+
+// The quick lookup: the Entry of the member with a key, or absent, with the comparisons of both halvings.
+pub fn quick_lookup(doc: &[u8], cursor: TreeOffset, key: &[u8]) -> Looked
+    ensures { λ r. ⌜ toldLookup r ≡ ask (quickLookup (now (doc .entry)) (cursor .0) (now (key .entry))) ⌝ }
+{
+    let c = cursor.0;
+    let o = binary_json_questions::questions::object_at(doc, c);
+    match o {
+        Object::Refused(r) => Looked::Refused(r),
+        Object::Of(a, n) => look(doc, a, c, n, key),
+    }
+}
+
+fn scan(doc: &[u8], a: Areas, c: usize, n: usize, key: &[u8]) -> Scanned
+    requires { ⌜ ObjectAt (now doc) a c n ⌝ }
+    ensures { λ r. ⌜ toldScan r ≡ ask (plainScan (now (doc .entry)) c (now (key .entry))) ⌝ }
+{
+    let mut j = 0;
+    while j < n {
+        let v = binary_json_areas::areas::word_at(doc, c + 4 + 4 * j);
+        let o = compare_text(doc, a, SlotOffset(v), key);
+        match o {
+            Compared::Bad => {
+                return Scanned::Refused(Refusal {
+                    number: 20,
+                    place: c,
+                });
+            }
+            Compared::Of(order) => match order {
+                Order::Below => {
+                    j += 1;
+                }
+                Order::Equal => {
+                    return Scanned::Entry(TreeOffset(c + 4 + 4 * n + 4 * j));
+                }
+                Order::Above => {
+                    j += 1;
+                }
+            },
+        }
+    }
+    Scanned::Absent
+}
+
+// The plain scan: the Entry of the first member with a key, or absent.
+pub fn plain_scan(doc: &[u8], cursor: TreeOffset, key: &[u8]) -> Scanned
+    ensures { λ r. ⌜ toldScan r ≡ ask (plainScan (now (doc .entry)) (cursor .0) (now (key .entry))) ⌝ }
+{
+    let c = cursor.0;
+    let o = binary_json_questions::questions::object_at(doc, c);
+    match o {
+        Object::Refused(r) => Scanned::Refused(r),
+        Object::Of(a, n) => scan(doc, a, c, n, key),
+    }
+}

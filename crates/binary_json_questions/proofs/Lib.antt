@@ -1,0 +1,2 @@
+pub mod Metas
+pub mod Entries
