@@ -1,0 +1,263 @@
+-- The demands on Fractured JSON, of the code's own answers. Each takes the equation that a call's contract ensures, and says of
+-- the answer what the theorems over the rules say of the rule.
+use Prim.Native.Nat.{ℕ, _*_, _≤_, _<_}
+use mathlib.Core.Bool.{Bool, true, false}
+use mathlib.Core.List.{List, []}
+use mathlib.Core.Logic.{_↔_}
+use mathlib.Core.Path.{_≡_, refl, sym, ap, _∙_}
+use lib.ListN.{length, getD}
+use Rattle.json.specs.Bytes.{Bytes, part}
+use Rattle.json.specs.Reading.{Outcome, halt, done, Asked, ask, answers, told}
+use Rattle.json.specs.Span.{Span}
+use Rattle.json.specs.Tree.{Tree, null, bool, num, str, arr, obj, Trees, Members, size, sizem, ElementIs, MemberIs, Lacks, NoNumber, NoString, NoArray, NoObject}
+use Rattle.json.specs.declared.Refusal.{Refusal}
+use Rattle.json.specs.declared.Verdict.{Verdict}
+use Rattle.json.proofs.Reading.{halt≢done}
+use Rattle.fractured_json_rules.specs.Meaning.{noKey, Keys, Means}
+use Rattle.fractured_json_rules.specs.Verdict.{verdict}
+use Rattle.fractured_json_rules.specs.KeyTable.{roomOf, keyOf, checkedBy, checked}
+use Rattle.fractured_json_rules.specs.TreeOf.{keysOf}
+use Rattle.fractured_json_rules.specs.Leads.{Leads, StandsFor}
+use Rattle.fractured_json_rules.specs.Questions.{readKey, endOf, kind, numberAt, stringAt, stringBytes, elementAt, memberAt, firstMember}
+use Rattle.fractured_json_rules.specs.Questions as Questions
+use Rattle.fractured_json_rules.specs.Answers.{kindOf, valueOf}
+use Rattle.fractured_json_rules.proofs.Demands as Rules
+use Rattle.fractured_json_check.specs.Told.{toldChecked}
+use Rattle.fractured_json_questions.specs.Told.{toldPlace, toldKind, toldNumber, toldText, toldMember, toldFound}
+use Rattle.fractured_json_check.specs.declared.answers.Checked.{Checked}
+use Rattle.fractured_json_questions.specs.declared.answers.Place.{Place}
+use Rattle.fractured_json_questions.specs.declared.answers.Kind.{Kind}
+use Rattle.fractured_json_questions.specs.declared.answers.Number.{Number}
+use Rattle.fractured_json_questions.specs.declared.answers.Text.{Text}
+use Rattle.fractured_json_questions.specs.declared.answers.Member.{Member}
+use Rattle.fractured_json_questions.specs.declared.answers.Found.{Found}
+
+-- ---- the case of an answer, from what it says
+
+abbrev refusal : ℕ → ℕ → Refusal
+refusal n p = record { number = n; place = p }
+
+abbrev verdictIs : Asked (Unit {0}) → Verdict
+verdictIs (halt n p u) = Verdict.Refused (refusal n p)
+verdictIs (done a u) = Verdict.Accepted
+
+verdict-is : (r : Verdict) → verdictIs (told r) ≡ r
+verdict-is Verdict.Accepted = refl
+verdict-is (Verdict.Refused r) = refl
+
+abbrev placeIs : Asked ℕ → Place
+placeIs (halt n p u) = Place.Refused (refusal n p)
+placeIs (done o u) = Place.At o
+
+place-is : (r : Place) → placeIs (toldPlace r) ≡ r
+place-is (Place.At o) = refl
+place-is (Place.Refused r) = refl
+
+abbrev kindIs : Asked Questions.Kind → Kind
+kindIs (halt n p u) = Kind.Refused (refusal n p)
+kindIs (done Questions.isNull u) = Kind.Null
+kindIs (done Questions.isFalse u) = Kind.False
+kindIs (done Questions.isTrue u) = Kind.True
+kindIs (done Questions.isNumber u) = Kind.Number
+kindIs (done (Questions.isString n) u) = Kind.String n
+kindIs (done (Questions.isObject n) u) = Kind.Object n
+kindIs (done (Questions.isArray n) u) = Kind.Array n
+
+kind-is : (r : Kind) → kindIs (toldKind r) ≡ r
+kind-is Kind.Null = refl
+kind-is Kind.False = refl
+kind-is Kind.True = refl
+kind-is Kind.Number = refl
+kind-is (Kind.String n) = refl
+kind-is (Kind.Object n) = refl
+kind-is (Kind.Array n) = refl
+kind-is (Kind.Refused r) = refl
+
+abbrev numberIs : Asked Questions.Bits → Number
+numberIs (halt n p u) = Number.Refused (refusal n p)
+numberIs (done b u) = Number.Is (b .type) (b .bits)
+
+number-is : (r : Number) → numberIs (toldNumber r) ≡ r
+number-is (Number.Is b n) = refl
+number-is (Number.Refused r) = refl
+
+abbrev textIs : Asked Span → Text
+textIs (halt n p u) = Text.Refused (refusal n p)
+textIs (done s u) = Text.At (s .place) (s .len)
+
+text-is : (r : Text) → textIs (toldText r) ≡ r
+text-is (Text.At p n) = refl
+text-is (Text.Refused r) = refl
+
+abbrev memberIs : Asked Questions.MemberAt → Member
+memberIs (halt n p u) = Member.Refused (refusal n p)
+memberIs (done a u) = Member.At (a .key) (a .value)
+
+member-is : (r : Member) → memberIs (toldMember r) ≡ r
+member-is (Member.At k v) = refl
+member-is (Member.Refused r) = refl
+
+abbrev foundIs : Asked Questions.Found → Found
+foundIs (halt n p u) = Found.Refused (refusal n p)
+foundIs (done (Questions.valueAt o) u) = Found.At o
+foundIs (done Questions.absent u) = Found.Absent
+
+found-is : (r : Found) → foundIs (toldFound r) ≡ r
+found-is (Found.At o) = refl
+found-is Found.Absent = refl
+found-is (Found.Refused r) = refl
+
+-- what a tree says to the question for its kind
+abbrev pub kindCase : Tree → Kind
+kindCase null = Kind.Null
+kindCase (bool false) = Kind.False
+kindCase (bool true) = Kind.True
+kindCase (num s m) = Kind.Number
+kindCase (str t) = Kind.String (length t)
+kindCase (obj ms) = Kind.Object (sizem ms)
+kindCase (arr ts) = Kind.Array (size ts)
+
+kind-case : (u : Tree) → kindIs (answers (kindOf u)) ≡ kindCase u
+unfolding kindOf
+kind-case null = refl
+kind-case (bool false) = refl
+kind-case (bool true) = refl
+kind-case (num s m) = refl
+kind-case (str t) = refl
+kind-case (obj ms) = refl
+kind-case (arr ts) = refl
+
+-- ---- Demand 2: `check` accepts exactly the documents that keep the format's rules, with room for their keys in the table lent.
+
+accepted-keys : (words : List ℕ) (q : Outcome Keys (Unit {0})) → answers tt ≡ checkedBy words q .verdict → (ks : Keys) × (q ≡ done tt ks)
+accepted-keys words (halt n p ks) e = absurd (halt≢done (sym e))
+accepted-keys words (done tt ks) e = (ks, refl)
+
+module _ (doc words after : List ℕ) (r : Checked) (contract : toldChecked r after ≡ checked doc words) where
+  verdict-says : told (r .verdict) ≡ checked doc words .verdict
+  verdict-says = ap (λ c. c .verdict) contract
+
+  pub check-accepts : (r .verdict ≡ Verdict.Accepted) ↔ ((t : Tree) × (m : Means doc t) × (length (m .keys) ≤ roomOf words))
+  check-accepts = (
+    λ a. Rules.accepted-exactly (roomOf words) doc .0 (accepted-keys words (verdict (roomOf words) doc) (sym (ap told a) ∙ verdict-says)),
+    λ b. let k = Rules.accepted-exactly (roomOf words) doc .1 b in
+        sym (verdict-is (r .verdict)) ∙ ap verdictIs (verdict-says ∙ ap (λ q. checkedBy words q .verdict) (k .1)),
+  )
+
+  -- ---- In the key table that `check` leaves, each immediate key passed has its pair, and all other words keep what they held.
+
+  pub count-is : r .count ≡ checked doc words .count
+  count-is = ap (λ c. c .count) contract
+
+  pub words-are : after ≡ checked doc words .words
+  words-are = ap (λ c. c .words) contract
+
+  pub check-keeps : (length after ≡ length words)
+      × ((j : ℕ) → j < r .count → keyOf after j ≡ getD (keysOf (verdict (roomOf words) doc)) j noKey)
+      × ((i : ℕ) → 2 * r .count ≤ i → getD after i 0 ≡ getD words i 0)
+  check-keeps =
+      let k = Rules.table-kept doc words in (
+        ap length words-are ∙ k .as-long,
+        λ j h. ap (λ w. keyOf w j) words-are ∙ k .each-pair j (rw count-is at h),
+        λ i h. ap (λ w. getD w i 0) words-are ∙ k .all-others i (rw count-is at h),
+      )
+
+-- ---- Demand 2: every question put to a node that the root leads to is answered from the tree; the questions that go by keys,
+-- with the very words and count that `check` left.
+
+module _ (doc : List ℕ) (t : Tree) (m : Means doc t) {o : ℕ} (l : Leads doc o) where
+  pub kind-told : (u : Tree) → StandsFor doc (m .keys) o u → (r : Kind) → toldKind r ≡ ask (kind doc o) → r ≡ kindCase u
+  kind-told u s r e = sym (kind-is r) ∙ (ap kindIs (e ∙ Rules.kind-answer doc t m l u s) ∙ kind-case u)
+
+  pub number-told : Bytes doc → (s : Bool) (k : ℕ) → StandsFor doc (m .keys) o (num s k) → (r : Number) → toldNumber r ≡ ask (numberAt doc o)
+      → (b n : ℕ) × (r ≡ Number.Is b n) × (valueOf (record { type = b; bits = n }) ≡ num s k)
+  number-told bytes s k n r e =
+      let (b, a, v) = Rules.number-answer doc t m l bytes s k n in
+      (b .type, b .bits, sym (number-is r) ∙ ap numberIs (e ∙ a), v)
+
+  pub number-told-wrong : (u : Tree) → StandsFor doc (m .keys) o u → NoNumber u → (r : Number) → toldNumber r ≡ ask (numberAt doc o) → r ≡ Number.Refused (refusal 21 o)
+  number-told-wrong u s n r e = sym (number-is r) ∙ ap numberIs (e ∙ Rules.number-wrong doc t m l u s n)
+
+  pub string-told : (x : List ℕ) → StandsFor doc (m .keys) o (str x) → (r : Text) → toldText r ≡ ask (stringAt doc o)
+      → (p n : ℕ) × (r ≡ Text.At p n) × (part doc p n ≡ x)
+  string-told x s r e =
+      let (a, b, v) = Rules.string-answer doc t m l x s in
+      (a .place, a .len, sym (text-is r) ∙ ap textIs (e ∙ b), v)
+
+  pub string-told-wrong : (u : Tree) → StandsFor doc (m .keys) o u → NoString u → (r : Text) → toldText r ≡ ask (stringAt doc o) → r ≡ Text.Refused (refusal 21 o)
+  string-told-wrong u s n r e = sym (text-is r) ∙ ap textIs (e ∙ Rules.string-wrong doc t m l u s n)
+
+  pub string-text-told : (x : List ℕ) → StandsFor doc (m .keys) o (str x) → (r : List ℕ) → r ≡ stringBytes doc o → r ≡ x
+  string-text-told x s r e = e ∙ Rules.string-bytes doc t m l x s
+
+  pub string-text-wrong : (u : Tree) → StandsFor doc (m .keys) o u → NoString u → (r : List ℕ) → r ≡ stringBytes doc o → r ≡ []
+  string-text-wrong u s n r e = e ∙ Rules.string-bytes-wrong doc t m l u s n
+
+-- the words and the count that a check left
+module _ (doc : List ℕ) (t : Tree) (m : Means doc t) (words : List ℕ) (roomy : length (m .keys) ≤ roomOf words)
+    (after : List ℕ) (count : ℕ) (ws : after ≡ checked doc words .words) (cs : count ≡ checked doc words .count) {o : ℕ} (l : Leads doc o) where
+  pub end-told : (u : Tree) (s : StandsFor doc (m .keys) o u) (r : Place) → toldPlace r ≡ ask (endOf doc after count o) → r ≡ Place.At (s .past)
+  end-told u s r e = sym (place-is r) ∙ ap placeIs ((rw (ws, cs) at e) ∙ (Rules.end-answer doc t m words roomy l u s))
+
+  -- ---- element i
+
+  pub element-told : (ts : Trees) (i : ℕ) → StandsFor doc (m .keys) o (arr ts) → i < size ts → (r : Place) → toldPlace r ≡ ask (elementAt doc after count o i)
+      → (p : ℕ) × (v : Tree) × (r ≡ Place.At p) × Leads doc p × StandsFor doc (m .keys) p v × ElementIs ts i v
+  element-told ts i s h r e =
+      let a = Rules.element-answer doc t m words roomy l ts i s h in
+      (a .place, a .tree, sym (place-is r) ∙ ap placeIs ((rw (ws, cs) at e) ∙ (a .answered)), a .led-to, a .stands, a .is-element)
+
+  pub element-told-past : (ts : Trees) (i : ℕ) → StandsFor doc (m .keys) o (arr ts) → size ts ≤ i → (r : Place) → toldPlace r ≡ ask (elementAt doc after count o i)
+      → r ≡ Place.Refused (refusal 22 o)
+  element-told-past ts i s h r e = sym (place-is r) ∙ ap placeIs ((rw (ws, cs) at e) ∙ (Rules.element-past doc t m words roomy l ts i s h))
+
+  pub element-told-wrong : (u : Tree) (i : ℕ) → StandsFor doc (m .keys) o u → NoArray u → (r : Place) → toldPlace r ≡ ask (elementAt doc after count o i)
+      → r ≡ Place.Refused (refusal 21 o)
+  element-told-wrong u i s n r e = sym (place-is r) ∙ ap placeIs ((rw (ws, cs) at e) ∙ (Rules.element-wrong doc t m words roomy l u i s n))
+
+  -- ---- member j: asked for at the key byte that it names, the key's text is the member's
+
+  pub member-told : (ms : Members) (j : ℕ) → StandsFor doc (m .keys) o (obj ms) → j < sizem ms → (r : Member) → toldMember r ≡ ask (memberAt doc after count o j)
+      → (k : ℕ) × (p : ℕ) × (x : List ℕ) × (v : Tree) × (r ≡ Member.At k p) × (ask (readKey doc after count k) ≡ answers (record { bytes = x; past = p }))
+      × Leads doc p × StandsFor doc (m .keys) p v × MemberIs ms j x v
+  member-told ms j s h r e =
+      let a = Rules.member-answer doc t m words roomy l ms j s h in (
+        a .key-place,
+        a .value-place,
+        a .key,
+        a .tree,
+        sym (member-is r) ∙ ap memberIs ((rw (ws, cs) at e) ∙ (a .answered)),
+        rw (ws, cs) (a .key-read),
+        a .led-to,
+        a .stands,
+        a .is-member,
+      )
+
+  pub member-told-past : (ms : Members) (j : ℕ) → StandsFor doc (m .keys) o (obj ms) → sizem ms ≤ j → (r : Member) → toldMember r ≡ ask (memberAt doc after count o j)
+      → r ≡ Member.Refused (refusal 22 o)
+  member-told-past ms j s h r e = sym (member-is r) ∙ ap memberIs ((rw (ws, cs) at e) ∙ (Rules.member-past doc t m words roomy l ms j s h))
+
+  pub member-told-wrong : (u : Tree) (j : ℕ) → StandsFor doc (m .keys) o u → NoObject u → (r : Member) → toldMember r ≡ ask (memberAt doc after count o j)
+      → r ≡ Member.Refused (refusal 21 o)
+  member-told-wrong u j s n r e = sym (member-is r) ∙ ap memberIs ((rw (ws, cs) at e) ∙ (Rules.member-wrong doc t m words roomy l u j s n))
+
+  -- ---- the first member by key
+
+  -- the answer r names the value of the first member of ms with the key x, or absent where no member has it
+  pub data FirstIs (ms : Members) (x : List ℕ) (r : Found) : Type 0 where
+    first : (j : ℕ) (v : Tree) (p : ℕ) → MemberIs ms j x v → ((i : ℕ) (w : Tree) → i < j → MemberIs ms i x w → ⊥)
+        → Leads doc p → StandsFor doc (m .keys) p v → r ≡ Found.At p → FirstIs ms x r
+    none : Lacks ms x → r ≡ Found.Absent → FirstIs ms x r
+
+  first-by : (ms : Members) (x : List ℕ) (r : Found) (q : Asked Questions.Found) → foundIs q ≡ r → Rules.FirstMemberAnswer doc (m .keys) ms x q → FirstIs ms x r
+  first-by ms x r q e (Rules.first j v p is earlier on stands a) = first j v p is earlier on stands (sym e ∙ ap foundIs a)
+  first-by ms x r q e (Rules.none lacks a) = none lacks (sym e ∙ ap foundIs a)
+
+  pub first-member-told : (ms : Members) (x : List ℕ) → StandsFor doc (m .keys) o (obj ms) → (r : Found) → toldFound r ≡ ask (firstMember doc after count o x) → FirstIs ms x r
+  first-member-told ms x s r e =
+      let w : toldFound r ≡ ask (firstMember doc (checked doc words .words) (checked doc words .count) o x) = e ∙ rw (ws, cs) in
+      first-by ms x r _ (sym (ap foundIs w) ∙ found-is r) (Rules.first-member-answer doc t m words roomy l ms x s)
+
+  pub first-member-told-wrong : (u : Tree) (x : List ℕ) → StandsFor doc (m .keys) o u → NoObject u → (r : Found) → toldFound r ≡ ask (firstMember doc after count o x)
+      → r ≡ Found.Refused (refusal 21 o)
+  first-member-told-wrong u x s n r e = sym (found-is r) ∙ ap foundIs ((rw (ws, cs) at e) ∙ (Rules.first-member-wrong doc t m words roomy l u x s n))

@@ -1,0 +1,5 @@
+pub mod MetBefore
+pub mod CheckedKeys
+pub mod CheckWalk
+pub mod Stored
+pub mod Checks

@@ -1,0 +1,8 @@
+// What the check answers. specs/Told.antt gives each case its number and values.
+use json::Verdict;
+
+// The verdict of the check, and the number of pairs in the key table.
+pub struct Checked {
+    pub verdict: Verdict,
+    pub count: usize,
+}

@@ -1,0 +1,53 @@
+// The check of a Fractured JSON document with a lent key table, proved equal to its rule in `fractured_json_rules`.
+pub mod answers;
+mod keys;
+mod repeats;
+mod walk;
+
+use answers::Checked;
+use fractured_json_values::header::read_header;
+use fractured_json_values::limits::DEEPEST;
+use json::Refusal;
+use json::Verdict;
+use walk::Walk;
+ghost use mathlib.Core.Path.{_≡_};
+ghost use Rattle.fractured_json_rules.specs.KeyTable.{checked};
+ghost use Rattle.fractured_json_check.specs.Told.{toldChecked};
+
+// The check of a document with a lent key table: the verdict, and the number of pairs. Each immediate key passed before the
+// end or the refusal has its pair in the table, the start and the length of its text; all other words keep what they held.
+pub fn check(doc: &[u8], keys: &mut [u32]) -> Checked
+    ensures { λ r. ⌜ toldChecked r (now (keys .exit)) ≡ checked (now (doc .entry)) (now (keys .entry)) ⌝ }
+{
+    let h = read_header(doc);
+    match h {
+        Verdict::Refused(r) => Checked {
+            verdict: Verdict::Refused(r),
+            count: 0,
+        },
+        Verdict::Accepted => {
+            let w = walk::value(doc, keys, 0, 3, DEEPEST);
+            match w {
+                Walk::Refused { refusal, count } => Checked {
+                    verdict: Verdict::Refused(refusal),
+                    count,
+                },
+                Walk::End { at, count } => {
+                    if at == doc.len() {
+                        return Checked {
+                            verdict: Verdict::Accepted,
+                            count,
+                        };
+                    }
+                    Checked {
+                        verdict: Verdict::Refused(Refusal {
+                            number: 42,
+                            place: at,
+                        }),
+                        count,
+                    }
+                }
+            }
+        }
+    }
+}

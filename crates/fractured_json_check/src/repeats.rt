@@ -1,0 +1,38 @@
+// Rule 39's test.
+use fractured_json_values::texts::same;
+use fractured_json_values::texts::text_of;
+use fractured_json_values::texts::word_of;
+ghost use mathlib.Core.Path.{_≡_};
+ghost use Prim.Native.Nat.{_/_, min};
+ghost use lib.ListN.{length};
+ghost use Rattle.fractured_json_rules.specs.Verdict.{met};
+ghost use Rattle.fractured_json_check.specs.Table.{keysIn};
+
+// How many of `count` keys the table can hold.
+fn held(keys: &[u32], count: usize) -> usize
+    ensures { λ r. ⌜ r ≡ min count (length (now (keys .entry)) / 2) ⌝ }
+{
+    let half = keys.len() / 2;
+    if count < half {
+        return count;
+    }
+    half
+}
+
+// Rule 39's test: is the text one of those in the table's first `count` pairs?
+pub(crate) fn was_met(doc: &[u8], keys: &[u32], count: usize, t: &[u8]) -> bool
+    ensures { λ r. ⌜ r ≡ met (now (doc .entry)) (now (t .entry)) (keysIn (now (keys .entry)) count) ⌝ }
+{
+    let mut j = 0;
+    let mut left = held(keys, count);
+    while 0 < left {
+        let start = word_of(keys, 2 * j);
+        let len = word_of(keys, 2 * j + 1);
+        if same(text_of(doc, start, len), t) {
+            return true;
+        }
+        j += 1;
+        left -= 1;
+    }
+    false
+}

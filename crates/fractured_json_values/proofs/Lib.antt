@@ -1,0 +1,8 @@
+pub mod Table
+pub mod Tables
+pub mod Opening
+pub mod Numbering
+pub mod TextLaws
+pub mod Carried
+pub mod Walks
+pub mod Headers

@@ -1,0 +1,203 @@
+-- The walk over a value as the code makes it is the rules' walk, whatever reads the keys and whatever is kept. The laws at the
+-- end serve the check's walk and the questions' walk alike.
+use mathlib.Core.Path.{_≡_, refl, sym, ap, _∙_}
+use mathlib.Core.Bool.{Bool, true, false, not}
+use mathlib.Core.List.{List, [], _∷_}
+use Prim.Native.Nat.{ℕ, zero, suc, _+_, _-_, _≤_, _<_}
+use native.Mathlib.Omega.{arith}
+use lib.Dec.{T, leb, ltb, ltb→lt, nltb→le}
+use lib.ListN.{length, getD}
+use Rattle.json.specs.Choose.{choose}
+use Rattle.json.specs.Number.{Float, binary32, binary64, finite}
+use Rattle.json.specs.Reading.{Outcome, halt, done, Reading, ask, answers, refuses, answer, follow, _>>=_, need}
+use Rattle.json.proofs.Reading.{then, stops, assoc}
+use Rattle.fractured_json_rules.specs.ByteTables.{Width, one, two, four, eight, bytes, Len, tiny, behind, Form, fNull, fBool, fInt, fFloat, fTiny, fString, fObject, fArray, fReserved, firstForms, formOf}
+use Rattle.fractured_json_rules.specs.Meaning.{behindLength}
+use Rattle.fractured_json_rules.specs.Verdict.{byteAt, payload, lengthAt, Counted, counted, inTurn, member, valueBy, value}
+use Rattle.fractured_json_values.specs.Heads.{widthIn, tinyIn, headOf}
+use Rattle.fractured_json_values.specs.Opened.{sizedAt, Opened, leaf, inside, finiteKind, openKind, openHead, openedAt, entry}
+use Rattle.fractured_json_values.proofs.Carried.{opened-done, opened-halts}
+
+-- ---- what every form of a type byte keeps
+
+abbrev pub floatOf : Width → Float
+floatOf one = binary32
+floatOf two = binary32
+floatOf four = binary32
+floatOf eight = binary64
+
+-- a float's format goes by its width, and a tiny int lies in its range
+abbrev pub Sound : Form → Type 0
+Sound fNull = Unit {0}
+Sound (fBool b) = Unit {0}
+Sound (fInt s w) = Unit {0}
+Sound (fFloat f w) = f ≡ floatOf w
+Sound (fTiny b) = (0xBE ≤ b) × (b < 0xFE)
+Sound (fString x) = Unit {0}
+Sound (fObject x) = Unit {0}
+Sound (fArray x) = Unit {0}
+Sound fReserved = Unit {0}
+
+abbrev All : List Form → Type 0
+All [] = Unit {0}
+All (f ∷ fs) = Sound f × All fs
+
+all-at : (fs : List Form) → All fs → (i : ℕ) → Sound (getD fs i fReserved)
+all-at [] h i = tt
+all-at (f ∷ fs) h zero = h .0
+all-at (f ∷ fs) h (suc i) = all-at fs (h .1) i
+
+first-sound : All firstForms
+first-sound = (tt, (tt, (tt, (tt, (tt, (tt, (tt, (tt, (tt, (tt, (tt, (refl, (refl, (tt, (tt, (tt, (tt, (tt, (tt, (tt, (tt, (tt, tt))))))))))))))))))))))
+
+either : (m n : ℕ) (f g : Form) → (m < n → Sound f) → (n ≤ m → Sound g) → Sound (choose (ltb m n) f g)
+unfolding choose
+either m n f g h k = go (ltb m n) (ltb→lt m n) (nltb→le m n)
+  where
+    go : (b : Bool) → (T b → m < n) → (T (not b) → n ≤ m) → Sound (choose b f g)
+    go true p q = h (p tt)
+    go false p q = k (q tt)
+
+pub sound : (b : ℕ) → Sound (formOf b)
+unfolding formOf
+sound b =
+    either b 0x16 (getD firstForms b fReserved) _ (λ _. all-at firstForms first-sound b)
+    (λ _. either b 0x6E _ _ (λ _. tt) (λ _. either b 0x9E _ _ (λ _. tt) (λ _. either b 0xBE _ _ (λ _. tt) (λ l. either b 0xFE _ _ (λ u. (l, u)) (λ _. tt)))))
+
+-- ---- chains
+
+module _ {S : Type 0} where
+  follow-same : {A B : Type 0} (o : Outcome S A) (f g : A → Reading S B) → ((a : A) (s : S) → f a s ≡ g a s) → follow o f ≡ follow o g
+  unfolding follow
+  follow-same (halt n p s) f g h = refl
+  follow-same (done a s) f g h = h a s
+
+  pub then-same : {A B : Type 0} (m : Reading S A) (f g : A → Reading S B) (s : S) → ((a : A) (z : S) → f a z ≡ g a z) → (m >>= f) s ≡ (m >>= g) s
+  unfolding _>>=_
+  then-same m f g s h = follow-same (m s) f g h
+
+  -- ---- lengths and payloads
+
+  module _ (doc : List ℕ) (o : ℕ) {A : Type 0} where
+    pub payload-sized : (w : Width) (f : ℕ → ℕ → Reading S A) (s : S)
+        → (payload doc o (bytes w) >>= λ n. f n (o + 1 + bytes w)) s ≡ (sizedAt doc o (bytes w) 0 >>= λ n. f (n .is) (n .past)) s
+    unfolding sizedAt choose _>>=_ follow
+    payload-sized one f s = sym (assoc (payload doc o 1) (λ n. answer (counted n (o + 1 + 1))) (λ n. f (n .is) (n .past)) s)
+    payload-sized two f s = sym (assoc (payload doc o 2) (λ n. answer (counted n (o + 1 + 2))) (λ n. f (n .is) (n .past)) s)
+    payload-sized four f s = sym (assoc (payload doc o 4) (λ n. answer (counted n (o + 1 + 4))) (λ n. f (n .is) (n .past)) s)
+    payload-sized eight f s = sym (assoc (payload doc o 8) (λ n. answer (counted n (o + 1 + 8))) (λ n. f (n .is) (n .past)) s)
+
+    pub length-sized : (x : Len) (f : ℕ → ℕ → Reading S A) (s : S)
+        → (lengthAt doc o x >>= λ n. f n (behindLength o x)) s ≡ (sizedAt doc o (widthIn x) (tinyIn x) >>= λ n. f (n .is) (n .past)) s
+    unfolding lengthAt sizedAt choose _>>=_ follow
+    length-sized (tiny n) f s = refl
+    length-sized (behind w) f s = payload-sized w f s
+
+  -- ---- a value by its form
+
+  abbrev pub onOpened : (ℕ → ℕ → Reading S ℕ) → (ℕ → ℕ → Reading S ℕ) → Opened → Reading S ℕ
+  onOpened array object (leaf e) = answer e
+  onOpened array object (inside true n at) = object n at
+  onOpened array object (inside false n at) = array n at
+
+  module _ (doc : List ℕ) (o : ℕ) (array object : ℕ → ℕ → Reading S ℕ) where
+    -- what is left of a value, once its length or payload n has been read
+    abbrev rest : ℕ → ℕ → ℕ → Reading S ℕ
+    rest kind n past = openKind (length doc) o kind n past >>= onOpened array object
+
+    -- a test before an end
+    tested : (t : Bool) (n p e : ℕ) (s : S) → (need t n p >>= λ _. answer e) s ≡ ((need t n p >>= λ _. answer (leaf e)) >>= onOpened array object) s
+    unfolding _>>=_ follow need
+    tested true n p e s = refl
+    tested false n p e s = refl
+
+    float-form : (w : Width) (s : S) → valueBy doc o array object (fFloat (floatOf w) w) s ≡ (sizedAt doc o (bytes w) 0 >>= λ n. rest (headOf (fFloat (floatOf w) w) .kind) (n .is) (n .past)) s
+    unfolding valueBy openKind finiteKind choose
+    float-form one s = payload-sized doc o one (λ n e. need (finite binary32 n) 43 o >>= λ _. answer e) s ∙ then-same {A = Counted} _ _ _ s (λ n z. tested (finite binary32 (n .is)) 43 o (n .past) z)
+    float-form two s = payload-sized doc o two (λ n e. need (finite binary32 n) 43 o >>= λ _. answer e) s ∙ then-same {A = Counted} _ _ _ s (λ n z. tested (finite binary32 (n .is)) 43 o (n .past) z)
+    float-form four s = payload-sized doc o four (λ n e. need (finite binary32 n) 43 o >>= λ _. answer e) s ∙ then-same {A = Counted} _ _ _ s (λ n z. tested (finite binary32 (n .is)) 43 o (n .past) z)
+    float-form eight s = payload-sized doc o eight (λ n e. need (finite binary64 n) 43 o >>= λ _. answer e) s ∙ then-same {A = Counted} _ _ _ s (λ n z. tested (finite binary64 (n .is)) 43 o (n .past) z)
+
+    string-form : (x : Len) (s : S) → valueBy doc o array object (fString x) s ≡ (sizedAt doc o (widthIn x) (tinyIn x) >>= λ n. rest 8 (n .is) (n .past)) s
+    unfolding valueBy openKind choose
+    string-form x s =
+        length-sized doc o x (λ n e. need (leb (e + n) (length doc)) 35 o >>= λ _. answer (e + n)) s
+        ∙ then-same {A = Counted} _ _ _ s (λ n z. tested (leb (n .past + n .is) (length doc)) 35 o (n .past + n .is) z)
+
+    sized-form : (f : Form) → Sound f → (s : S) → valueBy doc o array object f s ≡ (sizedAt doc o (headOf f .width) (headOf f .tiny) >>= λ n. rest (headOf f .kind) (n .is) (n .past)) s
+    unfolding valueBy sizedAt openKind finiteKind choose _>>=_ follow need
+    sized-form fNull h s = refl
+    sized-form (fBool false) h s = refl
+    sized-form (fBool true) h s = refl
+    sized-form (fTiny b) h s = refl
+    sized-form (fInt true w) h s = payload-sized doc o w (λ n e. answer e) s
+    sized-form (fInt false w) h s = payload-sized doc o w (λ n e. answer e) s
+    sized-form (fFloat f w) h s = rw h (float-form w s)
+    sized-form (fString x) h s = string-form x s
+    sized-form (fObject x) h s = length-sized doc o x object s
+    sized-form (fArray x) h s = length-sized doc o x array s
+    sized-form fReserved h s = refl
+
+    value-form : (f : Form) → Sound f → (s : S) → valueBy doc o array object f s ≡ (openHead doc o (headOf f) >>= onOpened array object) s
+    unfolding openHead
+    value-form f h s = sized-form f h s ∙ sym (assoc _ _ (onOpened array object) s)
+
+    pub value-opened : (s : S) → (byteAt doc o o >>= λ b. valueBy doc o array object (formOf b)) s ≡ (openedAt doc o >>= onOpened array object) s
+    unfolding openedAt
+    value-opened s = then-same _ _ _ s (λ b z. value-form (formOf b) (sound b) z) ∙ sym (assoc _ _ (onOpened array object) s)
+
+-- ---- a value, by what stands at its type byte
+
+module _ {S : Type 0} (key : ℕ → Reading S ℕ) (doc : List ℕ) (at : ℕ) (s : S) where
+  pub value-leaf : (levels e : ℕ) → ask (openedAt doc at) ≡ answers (leaf e) → value key levels doc at s ≡ done e s
+  unfolding value
+  value-leaf zero e h = value-opened doc at _ _ s ∙ then _ _ s (opened-done doc at (leaf e) s h)
+  value-leaf (suc l) e h = value-opened doc at _ _ s ∙ then _ _ s (opened-done doc at (leaf e) s h)
+
+  pub value-halts : (levels n p : ℕ) → ask (openedAt doc at) ≡ refuses n p → value key levels doc at s ≡ halt n p s
+  unfolding value
+  value-halts zero n p h = value-opened doc at _ _ s ∙ stops _ _ s (opened-halts doc at n p s h)
+  value-halts (suc l) n p h = value-opened doc at _ _ s ∙ stops _ _ s (opened-halts doc at n p s h)
+
+  pub value-deep : (levels : ℕ) (b : Bool) (n p : ℕ) → ask (openedAt doc at) ≡ answers (inside b n p) → levels ≡ 0 → value key levels doc at s ≡ halt 41 at s
+  unfolding value
+  value-deep zero true n p h z = value-opened doc at _ _ s ∙ then _ _ s (opened-done doc at (inside true n p) s h)
+  value-deep zero false n p h z = value-opened doc at _ _ s ∙ then _ _ s (opened-done doc at (inside false n p) s h)
+  value-deep (suc l) b n p h z = absurd (omega arith)
+
+  pub value-inside : (levels : ℕ) (b : Bool) (n p : ℕ) → ask (openedAt doc at) ≡ answers (inside b n p) → (levels ≡ 0 → ⊥)
+      → value key levels doc at s ≡ inTurn (entry b key (value key (levels - 1) doc)) n p s
+  unfolding value entry
+  value-inside zero b n p h z = absurd (z refl)
+  value-inside (suc l) true n p h z = let e : suc l - 1 ≡ l = omega arith in rw e (value-opened doc at _ _ s ∙ then _ _ s (opened-done doc at (inside true n p) s h))
+  value-inside (suc l) false n p h z = let e : suc l - 1 ≡ l = omega arith in rw e (value-opened doc at _ _ s ∙ then _ _ s (opened-done doc at (inside false n p) s h))
+
+-- ---- things in a row
+
+module _ {S : Type 0} (thing : ℕ → Reading S ℕ) (left at : ℕ) (s : S) where
+  pub turns-done : left ≤ 0 → inTurn thing left at s ≡ done at s
+  unfolding inTurn
+  turns-done h = let z : left ≡ 0 = omega arith in rw z
+
+  pub turn-passes : (a : ℕ) (z : S) → 0 < left → thing at s ≡ done a z → inTurn thing left at s ≡ inTurn thing (left - 1) a z
+  unfolding inTurn
+  turn-passes a z h e = let w : left ≡ suc (left - 1) = omega arith in ap (λ n. inTurn thing n at s) w ∙ then _ _ s e
+
+  pub turn-halts : (n p : ℕ) (z : S) → 0 < left → thing at s ≡ halt n p z → inTurn thing left at s ≡ halt n p z
+  unfolding inTurn
+  turn-halts n p z h e = let w : left ≡ suc (left - 1) = omega arith in ap (λ k. inTurn thing k at s) w ∙ stops _ _ s e
+
+-- ---- an entry
+
+module _ {S : Type 0} (key value : ℕ → Reading S ℕ) (object : Bool) (at : ℕ) (s : S) where
+  pub entry-plain : object ≡ false → entry object key value at s ≡ value at s
+  unfolding entry
+  entry-plain e = rw e
+
+  pub entry-keyed : (v : ℕ) (z : S) → object ≡ true → key at s ≡ done v z → entry object key value at s ≡ value v z
+  unfolding entry member
+  entry-keyed v z e h = rw e (then _ _ s h)
+
+  pub entry-halts : (n p : ℕ) (z : S) → object ≡ true → key at s ≡ halt n p z → entry object key value at s ≡ halt n p z
+  unfolding entry member
+  entry-halts n p z e h = rw e (stops _ _ s h)

@@ -1,0 +1,19 @@
+use native.Mathlib.Omega.{arith}
+use borrow.Author.Needs.{needs}
+use borrow.Author.Needs.{needs}
+use Rattle.fractured_json_values.proofs.index.byte.Statement.{statement}
+use Rattle.fractured_json_values.proofs.index.byte.Tie as tie
+use Rattle.fractured_json_values.proofs.index.byte.Reads as reads
+use Rattle.fractured_json_values.proofs.index.byte.Lts as lts
+
+shared-slice-read-result : tie.Need-shared-slice-read-result
+shared-slice-read-result c = search needs
+
+cast-result : tie.Need-cast-result
+cast-result c = omega (arith, c .shared-slice-known .given (c .before .args .at))
+
+returns : tie.Need-returns
+returns c = omega (arith, c .shared-slice-known .given (c .before .args .at))
+
+pub byte-spec : {M : Type 1} → statement M
+byte-spec = tie.close (tie.spec shared-slice-read-result cast-result returns)

@@ -1,0 +1,57 @@
+// Texts of the document, and the words and room of a key table.
+use crate::limits::MOST_KEYS;
+use json::Order;
+ghost use mathlib.Core.Path.{_≡_};
+ghost use Prim.Native.Nat.{_^_, _<_};
+ghost use lib.ListN.{length, getD};
+ghost use Rattle.json.specs.Bytes.{part};
+ghost use Rattle.json.specs.Texts.{compareTexts, isEqual};
+ghost use Rattle.fractured_json_rules.specs.KeyTable.{roomOf};
+
+// The bytes of a text that start at a place, as far as the document goes.
+pub fn text_of(doc: &[u8], start: usize, len: usize) -> &[u8]
+    ensures { λ r. ⌜ now r ≡ part (now (doc .entry)) start len ⌝ }
+{
+    if doc.len() < start {
+        return &doc[0..0];
+    }
+    if doc.len() - start < len {
+        return &doc[start..];
+    }
+    let end = start + len;
+    &doc[start..end]
+}
+
+// Are two texts the same?
+pub fn same(a: &[u8], b: &[u8]) -> bool
+    ensures { λ r. ⌜ r ≡ isEqual (compareTexts (now (a .entry)) (now (b .entry))) ⌝ }
+{
+    if a.len() != b.len() {
+        return false;
+    }
+    let o = text::compare(a, b);
+    match o {
+        Order::Below => false,
+        Order::Equal => true,
+        Order::Above => false,
+    }
+}
+
+// The word at a place of the table, as a number to count with.
+pub fn word_of(keys: &[u32], i: usize) -> usize
+    requires { ⌜ i < length (now keys) ⌝ }
+    ensures { λ r. ⌜ (r ≡ getD (now (keys .entry)) i 0) × (r < 2 ^ 32) ⌝ }
+{
+    keys[i] as usize
+}
+
+// How many keys a table has room for.
+pub fn room_of(keys: &[u32]) -> usize
+    ensures { λ r. ⌜ r ≡ roomOf (now (keys .entry)) ⌝ }
+{
+    let half = keys.len() / 2;
+    if half < MOST_KEYS {
+        return half;
+    }
+    MOST_KEYS
+}
