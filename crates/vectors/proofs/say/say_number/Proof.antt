@@ -1,10 +1,10 @@
 use borrow.Author.Needs.{needs}
-use Rattle.binary_json_vectors.proofs.say_number.Statement.{statement}
-use Rattle.binary_json_vectors.proofs.say_number.Tie as tie
-use Rattle.binary_json_vectors.proofs.say_number.Reads as reads
-use Rattle.binary_json_vectors.proofs.say_number.Lts as lts
-use Rattle.binary_json_vectors.proofs.say.Reads as say-reads
-use Rattle.binary_json_vectors.proofs.say_digit.Reads as say-digit-reads
+use Rattle.vectors.proofs.say.say_number.Statement.{statement}
+use Rattle.vectors.proofs.say.say_number.Tie as tie
+use Rattle.vectors.proofs.say.say_number.Reads as reads
+use Rattle.vectors.proofs.say.say_number.Lts as lts
+use Rattle.vectors.proofs.say.say.Reads as say-reads
+use Rattle.vectors.proofs.say.say_digit.Reads as say-digit-reads
 
 abbrev Inv-loop : tie.InvT-loop
 Inv-loop n unit₀ unit = Unit

@@ -1,12 +1,12 @@
 use borrow.Author.Needs.{needs}
 use Prim.Native.Nat.{_-_}
 use lib.ListN.{length}
-use Rattle.binary_json_vectors.proofs.say_text.Statement.{statement}
-use Rattle.binary_json_vectors.proofs.say_text.Tie as tie
-use Rattle.binary_json_vectors.proofs.say_text.Reads as reads
-use Rattle.binary_json_vectors.proofs.say_text.Lts as lts
-use Rattle.binary_json_vectors.proofs.say.Reads as say-reads
-use Rattle.binary_json_vectors.proofs.say_byte.Reads as say-byte-reads
+use Rattle.vectors.proofs.say.say_text.Statement.{statement}
+use Rattle.vectors.proofs.say.say_text.Tie as tie
+use Rattle.vectors.proofs.say.say_text.Reads as reads
+use Rattle.vectors.proofs.say.say_text.Lts as lts
+use Rattle.vectors.proofs.say.say.Reads as say-reads
+use Rattle.vectors.proofs.say.say_byte.Reads as say-byte-reads
 
 abbrev Inv-loop : tie.InvT-loop
 Inv-loop t i₀ t4 i = Unit
