@@ -11,7 +11,7 @@ pub fn wide(x: u8) -> u64
     x as u64
 }
 
-// The number that the n bytes at a place make. With n = 4 or 8 it compiles to one load.
+// The number that the n bytes at a place make, in one loop for every n.
 pub fn integer(s: &[u8], at: usize, n: usize) -> u64
     requires { ⌜ (n ≤ 8) × (at + n ≤ length (now s)) ⌝ }
     ensures { λ r. ⌜ r ≡ number (now (s .entry)) at n ⌝ }
