@@ -1,4 +1,4 @@
-// Where the areas of a document stand, and the words in them. The document is read here and nowhere else.
+// Where the areas of a document stand, and the words in them. Words are read here and nowhere else.
 use json::Refusal;
 use word::Fields;
 ghost use mathlib.Core.Path.{_≡_};

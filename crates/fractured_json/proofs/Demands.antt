@@ -7,7 +7,7 @@ use mathlib.Core.Logic.{_↔_}
 use mathlib.Core.Path.{_≡_, refl, sym, ap, _∙_}
 use lib.ListN.{length, getD}
 use Rattle.json.specs.Bytes.{Bytes, part}
-use Rattle.json.specs.Reading.{Outcome, halt, done, Asked, ask, answers, told}
+use Rattle.json.specs.Reading.{Outcome, halt, done, Asked, ask, answers, refuses, told}
 use Rattle.json.specs.Span.{Span}
 use Rattle.json.specs.Tree.{Tree, null, bool, num, str, arr, obj, Trees, Members, size, sizem, ElementIs, MemberIs, Lacks, NoNumber, NoString, NoArray, NoObject}
 use Rattle.json.specs.declared.Refusal.{Refusal}
@@ -144,7 +144,11 @@ module _ (doc words after : List ℕ) (r : Checked) (contract : toldChecked r af
         sym (verdict-is (r .verdict)) ∙ ap verdictIs (verdict-says ∙ ap (λ q. checkedBy words q .verdict) (k .1)),
   )
 
-  -- ---- In the key table that `check` leaves, each immediate key passed has its pair, and all other words keep what they held.
+  -- ---- Demand 1: "Bad input is refused with the number and place that document 01 fixes; 01 says what the lent key table holds
+  -- afterwards": each immediate key passed has its pair, and all other words keep what they held.
+
+  pub refused-as-fixed : (f : Refusal) → r .verdict ≡ Verdict.Refused f → checked doc words .verdict ≡ refuses (f .number) (f .place)
+  refused-as-fixed f e = sym verdict-says ∙ ap told e
 
   pub count-is : r .count ≡ checked doc words .count
   count-is = ap (λ c. c .count) contract
