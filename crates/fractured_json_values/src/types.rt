@@ -1,10 +1,10 @@
 // What a type byte and a key byte stand for, out of constant tables: one look-up finds the row of a byte, and the columns say
-// what the row is. Rows are numbered from 0 in the order of document 000; the two reserved bytes have a row each.
+// what the row is. Rows are numbered from 0 in the order of document 000. A byte past the range of its row is reserved.
 ghost use mathlib.Core.Path.{_≡_};
 ghost use Rattle.fractured_json_rules.specs.ByteTables.{formOf, keyFormOf};
 ghost use Rattle.fractured_json_values.specs.Heads.{headOf, keyHeadOf};
 
-// The row of each type byte.
+// The row of each type byte: the last that starts at or before it.
 const ROWS: [u8; 256] = [
     0,
     1,
@@ -260,12 +260,13 @@ const ROWS: [u8; 256] = [
     25,
     25,
     25,
-    26,
-    27,
+    25,
+    25,
 ];
 
-// Of each row of types: its first byte, the bytes of its length or payload, and its kind (see `Head`).
-const STARTS: [u8; 28] = [
+// Of each row of types: the start and the length of its range, the bytes of the length or payload behind a type byte, and
+// its kind (see `Head`).
+const STARTS: [u8; 26] = [
     0,
     1,
     2,
@@ -292,11 +293,38 @@ const STARTS: [u8; 28] = [
     110,
     158,
     190,
-    254,
-    255,
 ];
 
-const WIDTHS: [u8; 28] = [
+const LENGTHS: [u8; 26] = [
+    1,
+    1,
+    1,
+    1,
+    1,
+    1,
+    1,
+    1,
+    1,
+    1,
+    1,
+    1,
+    1,
+    1,
+    1,
+    1,
+    1,
+    1,
+    1,
+    1,
+    1,
+    1,
+    88,
+    48,
+    32,
+    64,
+];
+
+const WIDTHS: [u8; 26] = [
     0,
     0,
     0,
@@ -319,15 +347,13 @@ const WIDTHS: [u8; 28] = [
     1,
     2,
     4,
-    0,
-    0,
     0,
     0,
     0,
     0,
 ];
 
-const KINDS: [u8; 28] = [
+const KINDS: [u8; 26] = [
     0,
     1,
     2,
@@ -354,11 +380,9 @@ const KINDS: [u8; 28] = [
     9,
     10,
     5,
-    11,
-    11,
 ];
 
-// The row of each key byte.
+// The row of each key byte: the last that starts at or before it.
 const KEY_ROWS: [u8; 256] = [
     0,
     1,
@@ -615,15 +639,18 @@ const KEY_ROWS: [u8; 256] = [
     5,
     5,
     5,
-    6,
+    5,
 ];
 
-// Of each row of keys: its first byte, its kind, and whether a v_uint16 stands behind it (see `KeyHead`).
-const KEY_STARTS: [u8; 7] = [0, 1, 2, 3, 87, 171, 255];
+// Of each row of keys: the start and the length of its range, its kind, and whether a v_uint16 stands behind a key byte (see
+// `KeyHead`).
+const KEY_STARTS: [u8; 6] = [0, 1, 2, 3, 87, 171];
 
-const KEY_KINDS: [u8; 7] = [0, 1, 2, 0, 1, 2, 3];
+const KEY_LENGTHS: [u8; 6] = [1, 1, 1, 84, 84, 84];
 
-const KEY_SPELLED: [u8; 7] = [1, 1, 1, 0, 0, 0, 0];
+const KEY_KINDS: [u8; 6] = [0, 1, 2, 0, 1, 2];
+
+const KEY_SPELLED: [u8; 6] = [1, 1, 1, 0, 0, 0];
 
 // What the table says of a type byte. Kind: 0 null, 1 false, 2 true, 3 signed int, 4 unsigned int, 5 tiny int, 6 binary32,
 // 7 binary64, 8 string, 9 object, 10 array, 11 reserved. `tiny` is the byte less the first byte of its range.
@@ -637,10 +664,18 @@ pub fn head_of(b: u8) -> Head
     ensures { λ r. ⌜ r ≡ headOf (formOf b) ⌝ }
 {
     let row = ROWS[b as usize] as usize;
+    let tiny = b - STARTS[row];
+    if LENGTHS[row] <= tiny {
+        return Head {
+            kind: 11,
+            width: 0,
+            tiny: 0,
+        };
+    }
     Head {
         kind: KINDS[row],
         width: WIDTHS[row] as usize,
-        tiny: (b - STARTS[row]) as usize,
+        tiny: tiny as usize,
     }
 }
 
@@ -656,9 +691,17 @@ pub fn key_head(b: u8) -> KeyHead
     ensures { λ r. ⌜ r ≡ keyHeadOf (keyFormOf b) ⌝ }
 {
     let row = KEY_ROWS[b as usize] as usize;
+    let number = b - KEY_STARTS[row];
+    if KEY_LENGTHS[row] <= number {
+        return KeyHead {
+            kind: 3,
+            spelled: 0,
+            number: 0,
+        };
+    }
     KeyHead {
         kind: KEY_KINDS[row],
         spelled: KEY_SPELLED[row],
-        number: (b - KEY_STARTS[row]) as usize,
+        number: number as usize,
     }
 }

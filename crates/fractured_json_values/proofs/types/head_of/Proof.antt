@@ -10,26 +10,32 @@ array-read-row c = search type-laws
 cast-row : tie.Need-cast-row
 cast-row c = search type-laws
 
-array-read-t7 : tie.Need-array-read-t7
-array-read-t7 c = search type-laws
+array-read-tiny : tie.Need-array-read-tiny
+array-read-tiny c = search type-laws
 
-array-read-t14 : tie.Need-array-read-t14
-array-read-t14 c = search type-laws
+sub-tiny : tie.Need-sub-tiny
+sub-tiny c = search type-laws
 
-cast-t4 : tie.Need-cast-t4
-cast-t4 c = search type-laws
-
-array-read-t18 : tie.Need-array-read-t18
-array-read-t18 c = search type-laws
-
-sub-t19 : tie.Need-sub-t19
-sub-t19 c = search type-laws
-
-cast-t20 : tie.Need-cast-t20
-cast-t20 c = search type-laws
+array-read-if1 : tie.Need-array-read-if1
+array-read-if1 c = search type-laws
 
 returns : tie.Need-returns
 returns c = search type-laws
+
+array-read-t8 : tie.Need-array-read-t8
+array-read-t8 c = search type-laws
+
+array-read-t22 : tie.Need-array-read-t22
+array-read-t22 c = search type-laws
+
+cast-t5 : tie.Need-cast-t5
+cast-t5 c = search type-laws
+
+cast-t23 : tie.Need-cast-t23
+cast-t23 c = search type-laws
+
+returns-2 : tie.Need-returns-2
+returns-2 c = search type-laws
 
 pub head-of-spec : {M : Type 1} → statement M
 head-of-spec =
@@ -37,10 +43,12 @@ head-of-spec =
     (tie.spec
     array-read-row
     cast-row
-    array-read-t7
-    array-read-t14
-    cast-t4
-    array-read-t18
-    sub-t19
-    cast-t20
-    returns)
+    array-read-tiny
+    sub-tiny
+    array-read-if1
+    returns
+    array-read-t8
+    array-read-t22
+    cast-t5
+    cast-t23
+    returns-2)

@@ -10,23 +10,29 @@ array-read-row c = search key-laws
 cast-row : tie.Need-cast-row
 cast-row c = search key-laws
 
-array-read-t7 : tie.Need-array-read-t7
-array-read-t7 c = search key-laws
+array-read-number : tie.Need-array-read-number
+array-read-number c = search key-laws
 
-array-read-t14 : tie.Need-array-read-t14
-array-read-t14 c = search key-laws
+sub-number : tie.Need-sub-number
+sub-number c = search key-laws
 
-array-read-t18 : tie.Need-array-read-t18
-array-read-t18 c = search key-laws
-
-sub-t19 : tie.Need-sub-t19
-sub-t19 c = search key-laws
-
-cast-t4 : tie.Need-cast-t4
-cast-t4 c = search key-laws
+array-read-if1 : tie.Need-array-read-if1
+array-read-if1 c = search key-laws
 
 returns : tie.Need-returns
 returns c = search key-laws
+
+array-read-t8 : tie.Need-array-read-t8
+array-read-t8 c = search key-laws
+
+array-read-t22 : tie.Need-array-read-t22
+array-read-t22 c = search key-laws
+
+cast-t5 : tie.Need-cast-t5
+cast-t5 c = search key-laws
+
+returns-2 : tie.Need-returns-2
+returns-2 c = search key-laws
 
 pub key-head-spec : {M : Type 1} → statement M
 key-head-spec =
@@ -34,9 +40,11 @@ key-head-spec =
     (tie.spec
     array-read-row
     cast-row
-    array-read-t7
-    array-read-t14
-    array-read-t18
-    sub-t19
-    cast-t4
-    returns)
+    array-read-number
+    sub-number
+    array-read-if1
+    returns
+    array-read-t8
+    array-read-t22
+    cast-t5
+    returns-2)
