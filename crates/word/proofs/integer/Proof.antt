@@ -1,82 +1,39 @@
--- `word::integer` meets its contract. The loop's invariant: the bytes from at + i on have been read.
-use borrow.Author.Needs.{needs}
-use mathlib.Core.Path.{_≡_, sym, _∙_}
-use Prim.Native.Nat.{suc, _+_, _-_, _^_, _≤_, _<_}
-use native.Mathlib.Nat.{sub-self, sub-zero, add-zero}
-use native.Mathlib.Omega.{arith}
-use denote.Ref.{now}
+-- `word::integer` meets its contract. The loop's invariant: i bytes have been read.
+use mathlib.Core.Path.{_≡_}
+use Prim.Native.Nat.{_-_, _≤_}
 use Rattle.json.specs.Bytes.{number}
-use Rattle.word.proofs.Laws.{number-none, number-more, number-below}
+use Rattle.word.proofs.Laws.{integer-laws}
 use Rattle.word.proofs.integer.Statement.{statement}
 use Rattle.word.proofs.integer.Tie as tie
+use Rattle.word.proofs.integer.Reads as reads
+use Rattle.word.proofs.integer.Lts as lts
+use Rattle.word.proofs.more.Reads as more-reads
 
 abbrev Inv-loop : tie.InvT-loop
-Inv-loop s at n value₀ i₀ value i = (i ≤ n) × (value ≡ number s (at + i) (n - i))
+Inv-loop s at n value₀ i₀ value i = (i ≤ n) × (value ≡ number s at i)
 
 abbrev μ-loop : tie.MeasureT-loop
-μ-loop s at n value₀ i₀ value i = i
-
--- in a turn at most seven bytes have been read
-small : (c : tie.In-loop Inv-loop μ-loop) → c .before .loop .value < 256 ^ 7
-small c =
-    let here = c .before in
-    let known = here .before in
-    let a = known .before .args in
-    rw (here .loop .inv .1) (number-below 7 (now (a .s)) (a .at + here .loop .i) (a .n - here .loop .i) (omega arith) (λ k. known .shared-slice-known .given k .fits))
+μ-loop s at n value₀ i₀ value i = n - i
 
 loop-holds : tie.Need-loop-holds Inv-loop μ-loop
-loop-holds c = (search needs, rw sub-self (sym (number-none _ _)))
+loop-holds c = search integer-laws
 
-sub-i : tie.Need-sub-i Inv-loop μ-loop
-sub-i c = search needs
+more-requires : tie.Need-more-requires Inv-loop μ-loop
+more-requires c κs = search integer-laws
 
-mul-value : tie.Need-mul-value Inv-loop μ-loop
-mul-value c = omega (arith, small c)
-
-add-wide : tie.Need-add-wide Inv-loop μ-loop
-add-wide c = search needs
-
-shared-slice-read-wide : tie.Need-shared-slice-read-wide Inv-loop μ-loop
-shared-slice-read-wide c = search needs
-
-wide-requires : tie.Need-wide-requires Inv-loop μ-loop
-wide-requires c κs = search needs
-
-add-value : tie.Need-add-value Inv-loop μ-loop
-add-value c = omega (arith, small (c .before .before))
+add-i : tie.Need-add-i Inv-loop μ-loop
+add-i c = search integer-laws
 
 loop-less : tie.Need-loop-less Inv-loop μ-loop
-loop-less c = search needs
+loop-less c = search integer-laws
 
 loop-again : tie.Need-loop-again Inv-loop μ-loop
-loop-again c =
-    let here = c .before .before .before in
-    let a = here .before .before .args in
-    let i = here .loop .i in
-    let one-more : a .n - (i - 1) ≡ suc (a .n - i) = omega arith in
-    let next : a .at + (i - 1) + 1 ≡ a .at + i = omega arith in
-    (omega arith, rw one-more (omega (arith, rw next at (number-more (now (a .s)) (a .at + (i - 1)) (a .n - i)))))
+loop-again c = search integer-laws
 
 returns : tie.Need-returns Inv-loop μ-loop
-returns c =
-    let here = c .before in
-    let a = here .before .before .args in
-    let none-left : here .loop .i ≡ 0 = omega arith in
-    here .loop .inv .1 ∙ rw (none-left, sub-zero, add-zero)
+returns c = search integer-laws
 
 pub integer-spec : {M : Type 1} → statement M
 integer-spec =
     tie.close
-    (tie.spec
-    Inv-loop
-    μ-loop
-    loop-holds
-    sub-i
-    mul-value
-    add-wide
-    shared-slice-read-wide
-    wide-requires
-    add-value
-    loop-less
-    loop-again
-    returns)
+    (tie.spec Inv-loop μ-loop loop-holds more-requires add-i loop-less loop-again returns)

@@ -1,24 +1,18 @@
-use borrow.Author.Needs.{needs}
-use native.Mathlib.Omega.{arith}
-use denote.Ref.{now}
-use Rattle.word.proofs.Laws.{number-below}
+use Rattle.word.proofs.Laws.{integer-laws}
 use Rattle.word.proofs.word_at.Statement.{statement}
 use Rattle.word.proofs.word_at.Tie as tie
 use Rattle.word.proofs.word_at.Reads as reads
 use Rattle.word.proofs.word_at.Lts as lts
-use Rattle.word.proofs.integer.Reads as integer-reads
+use Rattle.word.proofs.four.Reads as four-reads
 
--- src/lib.rt:41:5
-integer-requires : tie.Need-integer-requires
-integer-requires c κs = search needs
+four-requires : tie.Need-four-requires
+four-requires c κs = search integer-laws
 
--- src/lib.rt:41:5
 cast-result : tie.Need-cast-result
-cast-result c = record { fits = rw (c .integer .ensures) (number-below 4 (now (c .before .before .args .s)) (c .before .before .args .at) 4 (omega arith) (λ k. c .before .shared-slice-known .given k .fits)) }
+cast-result c = search integer-laws
 
--- src/lib.rt:37:1
 returns : tie.Need-returns
-returns c = search needs
+returns c = search integer-laws
 
 pub word-at-spec : {M : Type 1} → statement M
-word-at-spec = tie.close (tie.spec integer-requires cast-result returns)
+word-at-spec = tie.close (tie.spec four-requires cast-result returns)
