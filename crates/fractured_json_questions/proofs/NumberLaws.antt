@@ -22,7 +22,7 @@ use Rattle.fractured_json_values.specs.Opened.{sizedAt, finiteKind, Counts, Bel
 use Rattle.fractured_json_questions.specs.Asked.{extendedBy, tinyBy, bitsOf, numberKind, numberHead}
 use Rattle.fractured_json_values.specs.declared.types.Head.{Head}
 use Rattle.fractured_json_values.specs.declared.values.Counted.{Counted}
-use Rattle.fractured_json_values.proofs.Table.{both, split, at}
+use Rattle.json.proofs.Table.{both, split, at}
 use Rattle.fractured_json_values.proofs.Opening.{is-true, is-false, head-width}
 use Rattle.fractured_json_values.proofs.Walks.{Sound, sound}
 use Rattle.fractured_json_questions.proofs.Forms.{number-form}

@@ -1,4 +1,3 @@
-pub mod Table
 pub mod Tables
 pub mod Opening
 pub mod Numbering

@@ -16,7 +16,7 @@ use Rattle.fractured_json_rules.specs.ByteTables.{formOf, keyFormOf}
 use Rattle.fractured_json_values.specs.Heads.{headOf, keyHeadOf}
 use Rattle.fractured_json_values.specs.declared.types.Head.{Head}
 use Rattle.fractured_json_values.specs.declared.types.KeyHead.{KeyHead}
-use Rattle.fractured_json_values.proofs.Table.{both, split, every, at}
+use Rattle.json.proofs.Table.{both, split, every, at}
 
 -- ---- type bytes
 

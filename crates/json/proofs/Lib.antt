@@ -4,3 +4,4 @@ pub mod Texts
 pub mod Tree
 pub mod Bytes
 pub mod Examples
+pub mod Table

@@ -1,0 +1,23 @@
+use Rattle.frame.proofs.Frames.{frame-laws}
+use Rattle.frame.proofs.check_fractured.Statement.{statement}
+use Rattle.frame.proofs.check_fractured.Tie as tie
+use Rattle.frame.proofs.check_fractured.Reads as reads
+use Rattle.frame.proofs.check_fractured.Lts as lts
+use Rattle.fractured_json_check.proofs.check.Reads as check-reads
+use Rattle.frame.proofs.key_table.Reads as key-table-reads
+
+key-table-requires : tie.Need-key-table-requires
+key-table-requires c κs = search frame-laws
+
+slice-aggregate-check : tie.Need-slice-aggregate-check
+slice-aggregate-check c = search frame-laws
+
+check-requires : tie.Need-check-requires
+check-requires c κs = search frame-laws
+
+returns : tie.Need-returns
+returns c = search frame-laws
+
+pub check-fractured-spec : {M : Type 1} → statement M
+check-fractured-spec =
+    tie.close (tie.spec key-table-requires slice-aggregate-check check-requires returns)

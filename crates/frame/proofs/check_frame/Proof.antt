@@ -1,0 +1,28 @@
+use Rattle.frame.proofs.Frames.{frame-laws}
+use Rattle.frame.proofs.check_frame.Statement.{statement}
+use Rattle.frame.proofs.check_frame.Tie as tie
+use Rattle.frame.proofs.check_frame.Reads as reads
+use Rattle.frame.proofs.check_frame.Lts as lts
+use Rattle.binary_json_check.proofs.check.Reads as check-reads
+use Rattle.frame.proofs.check_fractured.Reads as check-fractured-reads
+use Rattle.frame.proofs.is_fractured.Reads as is-fractured-reads
+
+is-fractured-requires : tie.Need-is-fractured-requires
+is-fractured-requires c κs = search frame-laws
+
+check-fractured-requires : tie.Need-check-fractured-requires
+check-fractured-requires c κs = search frame-laws
+
+returns : tie.Need-returns
+returns c = search frame-laws
+
+check-requires : tie.Need-check-requires
+check-requires c κs = search frame-laws
+
+returns-2 : tie.Need-returns-2
+returns-2 c = search frame-laws
+
+pub check-frame-spec : {M : Type 1} → statement M
+check-frame-spec =
+    tie.close
+    (tie.spec is-fractured-requires check-fractured-requires returns check-requires returns-2)

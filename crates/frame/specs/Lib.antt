@@ -1,0 +1,5 @@
+pub mod Frame
+pub mod Texts
+pub mod Told
+pub mod Decoded
+pub mod Written

@@ -1,0 +1,77 @@
+// One line of the bench: what its characters stand for, which format, the verdict, and the text of the answer.
+mod hex;
+mod texts;
+
+use json::Verdict;
+pub use texts::text;
+pub use texts::total;
+ghost use mathlib.Core.Path.{_≡_};
+ghost use Rattle.json.specs.Reading.{told};
+ghost use lib.ListN.{length};
+ghost use Rattle.fractured_json_rules.specs.Verdict.{verdict};
+ghost use Rattle.frame.specs.Frame.{isFractured, verdictOf, frameOf, answerOf};
+ghost use Rattle.frame.specs.Told.{toldAnswer};
+
+// The most characters of a line, and the most bytes of a frame.
+pub const LONGEST: usize = 32768;
+
+const BYTES: usize = 16384;
+
+// The answer of a line: too long, not hexadecimal, or the verdict of its frame.
+pub enum Answer {
+    Long,
+    Hex,
+    Binary(Verdict),
+    Fractured(Verdict),
+}
+
+// Whether a frame starts as Fractured JSON does.
+fn is_fractured(doc: &[u8]) -> bool
+    ensures { λ r. ⌜ r ≡ isFractured (now (doc .entry)) ⌝ }
+{
+    if doc.len() < 2 {
+        return false;
+    }
+    if doc[0] == 0x46 {
+        return doc[1] == 0x4A;
+    }
+    false
+}
+
+// Room for 4,096 keys.
+fn key_table() -> [u32; 8192]
+    ensures { λ r. ⌜ 8192 ≡ length r ⌝ }
+{
+    [0; 8192]
+}
+
+fn check_fractured(doc: &[u8]) -> Verdict
+    ensures { λ r. ⌜ told r ≡ verdictOf (verdict 4096 (now (doc .entry))) ⌝ }
+{
+    let mut keys = key_table();
+    let c = fractured_json_check::check(doc, &mut keys);
+    c.verdict
+}
+
+fn check_frame(doc: &[u8]) -> Answer
+    ensures { λ r. ⌜ toldAnswer r ≡ frameOf (now (doc .entry)) ⌝ }
+{
+    if is_fractured(doc) {
+        return Answer::Fractured(check_fractured(doc));
+    }
+    Answer::Binary(binary_json_check::check(doc))
+}
+
+// The answer of a line, without its LF.
+pub fn answer_to(line: &[u8]) -> Answer
+    ensures { λ r. ⌜ toldAnswer r ≡ answerOf (now (line .entry)) ⌝ }
+{
+    if LONGEST < line.len() {
+        return Answer::Long;
+    }
+    let mut bytes = [0u8; BYTES];
+    if hex::decode(line, &mut bytes) {
+        return check_frame(&bytes[..line.len() / 2]);
+    }
+    Answer::Hex
+}
