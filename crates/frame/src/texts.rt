@@ -52,6 +52,7 @@ fn put_number(out: &mut [u8], at: usize, text: &[u8], n: u64) -> usize
 fn put_verdict(out: &mut [u8], at: usize, verdict: Verdict) -> usize
     requires { ⌜ at + 46 ≤ length (now out) ⌝ }
     ensures { λ r. ⌜ Written (now (out .entry)) at (verdictText (told verdict)) (now (out .exit)) r ⌝ }
+    ensures { λ r. ⌜ r ≤ at + 46 ⌝ }
 {
     match verdict {
         Verdict::Accepted => put(out, at, b" ok\n"),
@@ -66,6 +67,7 @@ fn put_verdict(out: &mut [u8], at: usize, verdict: Verdict) -> usize
 fn put_answer(out: &mut [u8], at: usize, answer: Answer) -> usize
     requires { ⌜ at + 48 ≤ length (now out) ⌝ }
     ensures { λ r. ⌜ Written (now (out .entry)) at (said (toldAnswer answer)) (now (out .exit)) r ⌝ }
+    ensures { λ r. ⌜ r ≤ at + 48 ⌝ }
 {
     match answer {
         Answer::Long => put(out, at, b" long\n"),
@@ -84,6 +86,7 @@ fn put_answer(out: &mut [u8], at: usize, answer: Answer) -> usize
 // The line of an answer, with its number: written over the start of `out`, and its length answered.
 pub fn text(number: u64, answer: Answer, out: &mut [u8; 80]) -> usize
     ensures { λ r. ⌜ Written (now (out .entry)) 0 (answerText number (toldAnswer answer)) (now (out .exit)) r ⌝ }
+    ensures { λ r. ⌜ r ≤ length (now (out .exit)) ⌝ }
 {
     let at = put_decimal(out, 0, number);
     put_answer(out, at, answer)
@@ -92,6 +95,7 @@ pub fn text(number: u64, answer: Answer, out: &mut [u8; 80]) -> usize
 // The last line: how many frames there were, and how many of them were accepted.
 pub fn total(frames: u64, ok: u64, out: &mut [u8; 80]) -> usize
     ensures { λ r. ⌜ Written (now (out .entry)) 0 (totalText frames ok) (now (out .exit)) r ⌝ }
+    ensures { λ r. ⌜ r ≤ length (now (out .exit)) ⌝ }
 {
     let many = put_number(out, 0, b"total ", frames);
     let end = put_number(out, many, b" ok ", ok);

@@ -1,3 +1,4 @@
+use borrow.Author.Needs.{needs}
 use Rattle.frame.proofs.TextLaws.{line-laws}
 use Rattle.frame.proofs.texts.put_verdict.Statement.{statement}
 use Rattle.frame.proofs.texts.put_verdict.Tie as tie
@@ -49,7 +50,7 @@ same-length-2 : tie.Need-same-length-2
 same-length-2 c = search line-laws
 
 returns-2 : tie.Need-returns-2
-returns-2 c = search line-laws
+returns-2 c = (search line-laws, search needs)
 
 pub put-verdict-spec : {M : Type 1} → statement M
 put-verdict-spec =

@@ -1,0 +1,12 @@
+-- A part of a text has the length that it was asked for.
+use mathlib.Core.Path.{_≡_, sym}
+use mathlib.Core.List.{List}
+use Prim.Native.Nat.{ℕ, _≤_}
+use borrow.Author.Needs.{needs}
+use lib.ListN.{length, take}
+use lib.Seq.{length-take-le}
+
+pub counted : (n : ℕ) (xs : List ℕ) → n ≤ length xs → n ≡ length (take n xs)
+counted n xs h = sym (length-take-le n xs h)
+
+pub ruleset part-laws = (counted, needs)
