@@ -1,0 +1,26 @@
+use Rattle.exports.proofs.Handing.{handing-laws}
+use Rattle.exports.proofs.binary.bj_number.Statement.{statement}
+use Rattle.exports.proofs.binary.bj_number.Tie as tie
+use Rattle.exports.proofs.binary.bj_number.Reads as reads
+use Rattle.exports.proofs.binary.bj_number.Lts as lts
+use Rattle.binary_json_questions.proofs.questions.number.Reads as number-reads
+use Rattle.exports.proofs.binary.give_bits.Reads as give-bits-reads
+
+returns : tie.Need-returns
+returns c = search handing-laws
+
+number-requires : tie.Need-number-requires
+number-requires c κs = search handing-laws
+
+give-bits-requires : tie.Need-give-bits-requires
+give-bits-requires c κs = search handing-laws
+
+same-length : tie.Need-same-length
+same-length c = search handing-laws
+
+returns-2 : tie.Need-returns-2
+returns-2 c = search handing-laws
+
+pub bj-number-spec : {M : Type 1} → statement M
+bj-number-spec =
+    tie.close (tie.spec returns number-requires give-bits-requires same-length returns-2)
