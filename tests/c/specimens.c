@@ -1,0 +1,270 @@
+/* Runs the bench specimens of document 01 through the C header: the fourteen, the lookups with their counts, and the
+   documents at the limits. Prints a line for each failed case, and the number of cases. */
+#include <inttypes.h>
+#include <stdio.h>
+#include <string.h>
+
+#include "czubrotek.h"
+
+enum { longest = 65537, most_keys = 4096, untouched = 77 };
+
+static uint8_t doc[longest];
+static size_t len;
+static uint32_t keys[2 * most_keys];
+static uint64_t out[5];
+static int cases, failed;
+
+/* ---- documents */
+
+static void put(uint8_t byte) { doc[len++] = byte; }
+
+static void fill(uint8_t byte, size_t times) {
+    while (times-- > 0) put(byte);
+}
+
+/* appends bytes in hexadecimal */
+static void add(const char *hex) {
+    unsigned byte;
+    for (; sscanf(hex, "%2x", &byte) == 1; hex += 2) put((uint8_t)byte);
+}
+
+static void word(uint32_t w) {
+    for (int i = 0; i < 4; i++) put((uint8_t)(w >> (8 * i)));
+}
+
+static void start(const char *hex) {
+    len = 0;
+    add(hex);
+}
+
+/* ---- cases */
+
+/* forgets what an earlier call wrote */
+static void lend(void) {
+    for (size_t i = 0; i < 5; i++) out[i] = untouched;
+}
+
+/* `returned`, and the first n of the words are `want`, and no other was written */
+static void expect(const char *name, uint32_t returned, uint32_t number, size_t n, const uint64_t *want) {
+    int good = returned == number;
+    for (size_t i = 0; i < 5; i++) good = good && out[i] == (i < n ? want[i] : untouched);
+    cases++;
+    if (good) return;
+    failed++;
+    printf("%s: returned %" PRIu32 " and wrote", name, returned);
+    for (size_t i = 0; i < 5; i++) printf(" %" PRIu64, out[i]);
+    printf("\n");
+}
+
+#define EXPECT(name, returned, number, ...)                                              \
+    expect(name, returned, number, sizeof((uint64_t[]){__VA_ARGS__}) / sizeof(uint64_t), \
+           (const uint64_t[]){__VA_ARGS__})
+
+static uint32_t binary(void) {
+    lend();
+    return bj_check(doc, len, out, 4);
+}
+
+static uint32_t fractured(size_t words) {
+    lend();
+    return fj_check(doc, len, keys, words, out, 4);
+}
+
+static void binary_accepts(const char *name) { expect(name, binary(), 0, 0, NULL); }
+
+static void fourteen(void) {
+    start("010100000000000000000000");
+    binary_accepts("empty array");
+    len = 11;
+    EXPECT("its first 11 bytes", binary(), 1, 11);
+    start("020100000000000000000000");
+    EXPECT("first byte 02", binary(), 3, 0);
+    start("010100000300000000000000");
+    EXPECT("fifth byte 03", binary(), 8, 4);
+    start("0102000021000000140000000100000001000000400300006100");
+    binary_accepts("object");
+    doc[25] = 1;
+    EXPECT("last byte 01", binary(), 5, 20);
+    start("81010000220000000402000000000000000000000000F03F");
+    binary_accepts("scalar 1.0");
+    start("81010000200000008500000000000000");
+    EXPECT("an array naming itself", binary(), 9, 8);
+
+    start("464A016F046102");
+    EXPECT("FJ object", fractured(2 * most_keys), 0, 1);
+    start("464A01A0BEFD");
+    EXPECT("FJ array", fractured(2 * most_keys), 0, 0);
+    start("464A01A06F0461006F57DF");
+    EXPECT("FJ back reference", fractured(2 * most_keys), 0, 1);
+    start("464A01FE");
+    EXPECT("FJ reserved type", fractured(2 * most_keys), 36, 3, 0);
+    start("464A016F5700");
+    EXPECT("FJ index not found", fractured(2 * most_keys), 38, 4, 0);
+    start("464A0170046100046101");
+    EXPECT("FJ text met before", fractured(2 * most_keys), 39, 7, 1);
+}
+
+/* {"a":true} and 1.0, asked everything */
+static void binary_questions(void) {
+    const uint8_t a[] = {'a'}, b[] = {'b'};
+    start("0102000021000000140000000100000001000000400300006100");
+    lend();
+    EXPECT("lookup of a", bj_quick_lookup(doc, len, 4, a, 1, out, 4), 0, 1, 1, 1, 12);
+    lend();
+    EXPECT("lookup of b", bj_quick_lookup(doc, len, 4, b, 1, out, 4), 0, 0, 1, 0);
+    lend();
+    EXPECT("scan for a", bj_plain_scan(doc, len, 4, a, 1, out, 4), 0, 1, 12);
+    lend();
+    EXPECT("scan for b", bj_plain_scan(doc, len, 4, b, 1, out, 4), 0, 0);
+    lend();
+    EXPECT("kind and size", bj_kind_and_size(doc, len, 4, out, 4), 0, 1, 1);
+    lend();
+    EXPECT("member", bj_member(doc, len, 4, 0, out, 4), 0, 20, 12);
+    lend();
+    EXPECT("member past the end", bj_member(doc, len, 4, 1, out, 4), 22, 4);
+    lend();
+    EXPECT("type", bj_entry_type(doc, len, 12, out, 4), 0, 1);
+    lend();
+    EXPECT("slot", bj_slot(doc, len, 20, out, 4), 0, 24, 1);
+    lend();
+    EXPECT("true is no string", bj_string(doc, len, 12, out, 4), 21, 12);
+    lend();
+    EXPECT("true is no container", bj_container(doc, len, 12, out, 4), 21, 12);
+    lend();
+    EXPECT("a far cursor", bj_kind_and_size(doc, len, SIZE_MAX, out, 4), 20, UINT64_MAX);
+    lend();
+    expect("too few words", bj_quick_lookup(doc, len, 4, a, 1, out, 3), CZUBROTEK_TOO_FEW, 0, NULL);
+    start("81010000220000000402000000000000000000000000F03F");
+    lend();
+    EXPECT("element", bj_element(doc, len, 4, 0, out, 4), 0, 8);
+    lend();
+    EXPECT("number", bj_number(doc, len, 8, out, 4), 0, 0x3FF0000000000000);
+}
+
+/* [{"a":null},{"a":1}] and "x", asked everything */
+static void fractured_questions(void) {
+    const uint8_t a[] = {'a'}, b[] = {'b'};
+    start("464A01A06F0461006F57DF");
+    EXPECT("pairs", fractured(2), 0, 1);
+    lend();
+    EXPECT("FJ kind", fj_kind(doc, len, 3, out, 4), 0, 6, 2);
+    lend();
+    EXPECT("FJ end", fj_end(doc, len, keys, 2, 1, 3, out, 4), 0, 11);
+    lend();
+    EXPECT("FJ end without the table", fj_end(doc, len, keys, 0, 0, 3, out, 4), 38, 9);
+    lend();
+    EXPECT("FJ element", fj_element(doc, len, keys, 2, 1, 3, 1, out, 4), 0, 8);
+    lend();
+    EXPECT("FJ member", fj_member(doc, len, keys, 2, 1, 8, 0, out, 4), 0, 9, 10);
+    lend();
+    EXPECT("FJ first member a", fj_first_member(doc, len, keys, 2, 1, 8, a, 1, out, 4), 0, 1, 10);
+    lend();
+    EXPECT("FJ first member b", fj_first_member(doc, len, keys, 2, 1, 8, b, 1, out, 4), 0, 0);
+    lend();
+    EXPECT("FJ number", fj_number(doc, len, 10, out, 4), 0, 0xDF, 1);
+    lend();
+    expect("FJ too few words", fj_check(doc, len, keys, 2, out, 1), CZUBROTEK_TOO_FEW, 0, NULL);
+    start("464A011778");
+    lend();
+    EXPECT("FJ string", fj_string(doc, len, 3, out, 4), 0, 4, 1);
+}
+
+/* arrays of one that name the next, the last empty */
+static void nested(uint32_t depth) {
+    start("");
+    word(1 + 32 * (8 * depth));
+    for (uint32_t level = 1; level < depth; level++) {
+        word(32);
+        word(5 + 32 * (4 + 8 * level));
+    }
+    word(0);
+    word(0);
+}
+
+static void fractured_nested(size_t depth) {
+    start("464A01");
+    fill(0x9F, depth - 1);
+    put(0x9E);
+}
+
+/* an object whose members each have a key of two bytes, and null */
+static void object(unsigned members) {
+    start("464A0111");
+    put((uint8_t)members);
+    put((uint8_t)(members >> 8));
+    for (unsigned key = 0; key < members; key++) {
+        put(0x05);
+        put((uint8_t)key);
+        put((uint8_t)(key >> 8));
+        put(0x00);
+    }
+}
+
+static void limits(void) {
+    start("81010000200000000200000000000000");
+    fill(0, 65536 - len);
+    binary_accepts("65,536 bytes");
+    put(0);
+    EXPECT("65,537 bytes", binary(), 2, 65537);
+    start("464A010FF8FF0000");
+    fill('x', 65536 - len);
+    EXPECT("FJ of 65,536 bytes", fractured(2 * most_keys), 0, 0);
+    put(0);
+    EXPECT("FJ of 65,537 bytes", fractured(2 * most_keys), 32, 65537, 0);
+
+    nested(32);
+    binary_accepts("depth 32");
+    nested(33);
+    EXPECT("depth 33", binary(), 12, 260);
+    fractured_nested(32);
+    EXPECT("FJ of depth 32", fractured(2 * most_keys), 0, 0);
+    fractured_nested(33);
+    EXPECT("FJ of depth 33", fractured(2 * most_keys), 41, 35, 0);
+
+    start("464A016D");
+    fill('x', 87);
+    EXPECT("string of 87 bytes", fractured(2 * most_keys), 0, 0);
+    start("464A010D58");
+    fill('x', 88);
+    EXPECT("string of 88 bytes", fractured(2 * most_keys), 0, 0);
+    start("464A016F56");
+    fill('k', 83);
+    put(0);
+    EXPECT("key of 83 bytes", fractured(2 * most_keys), 0, 1);
+    start("464A016F0054");
+    fill('k', 84);
+    put(0);
+    EXPECT("key of 84 bytes", fractured(2 * most_keys), 0, 1);
+
+    start("464A016F01FFFF0300");
+    EXPECT("index FFFF03", fractured(2 * most_keys), 38, 4, 0);
+    start("464A016F01FFFF0400");
+    EXPECT("index FFFF04", fractured(2 * most_keys), 37, 7, 0);
+
+    object(4096);
+    EXPECT("a full key table", fractured(2 * most_keys), 0, 4096);
+    object(4097);
+    EXPECT("one key more", fractured(2 * most_keys), 40, 16390, 4096);
+}
+
+/* what a lent key table holds afterwards: the pair of the key passed, and else what it held */
+static void table(void) {
+    for (size_t i = 0; i < 4; i++) keys[i] = untouched;
+    start("464A0170046100046101");
+    EXPECT("refused with a pair", fractured(4), 39, 7, 1);
+    const uint32_t want[] = {5, 1, untouched, untouched};
+    cases++;
+    if (memcmp(keys, want, sizeof want) == 0) return;
+    failed++;
+    printf("the key table holds %" PRIu32 " %" PRIu32 " %" PRIu32 " %" PRIu32 "\n", keys[0], keys[1], keys[2], keys[3]);
+}
+
+int main(void) {
+    fourteen();
+    binary_questions();
+    fractured_questions();
+    limits();
+    table();
+    printf("c: %d cases\n", cases);
+    return failed != 0;
+}
