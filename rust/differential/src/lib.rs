@@ -1,0 +1,53 @@
+//! The proved readers and the plain ones, compared on generated and spoilt documents.
+//!
+//! A document is made from a seed, so that a failure can be made again; it is printed in hexadecimal.
+
+// links the static library with the proved code
+use czubrotek as _;
+
+pub mod binary_json;
+pub mod exports;
+pub mod fractured_json;
+pub mod random;
+pub mod spoil;
+
+/// How many documents of each format are compared: as many as `CZUBROTEK_DOCUMENTS` says, else 110,000.
+pub fn documents() -> u64 {
+    std::env::var("CZUBROTEK_DOCUMENTS")
+        .ok()
+        .and_then(|n| n.parse().ok())
+        .unwrap_or(110_000)
+}
+
+/// The first seed: `CZUBROTEK_SEED`, else 1.
+pub fn first_seed() -> u64 {
+    std::env::var("CZUBROTEK_SEED")
+        .ok()
+        .and_then(|n| n.parse().ok())
+        .unwrap_or(1)
+}
+
+/// A document in hexadecimal.
+pub fn hex(bytes: &[u8]) -> String {
+    bytes.iter().map(|b| format!("{b:02X}")).collect()
+}
+
+/// The cursors at which a document is asked: every byte, a few past the end, and some far beyond.
+pub fn cursors(len: usize) -> impl Iterator<Item = u64> {
+    let far = [
+        65_535,
+        65_536,
+        (1 << 27) - 4,
+        1 << 27,
+        (1 << 32) - 1,
+        1 << 32,
+        1 << 63,
+        u64::MAX - 7,
+        u64::MAX - 3,
+        u64::MAX,
+    ];
+    (0..len as u64 + 9).chain(far)
+}
+
+/// The indices that are asked for at a cursor.
+pub const INDICES: [u64; 6] = [0, 1, 2, 5, 1 << 62, u64::MAX];

@@ -1,0 +1,284 @@
+//! Every verdict, place and key-table word, and every question at every cursor, of the proved and the plain readers.
+
+use differential::exports;
+use differential::random::Random;
+use differential::spoil::spoil;
+use differential::{INDICES, cursors, documents, first_seed, hex};
+use std::thread;
+
+/// Compares one answer, and prints the document if it differs.
+macro_rules! same {
+    ($doc:expr, $proved:expr, $plain:expr, $($what:tt)*) => {
+        let (proved, plain) = ($proved, $plain);
+        assert!(
+            proved == plain,
+            "{}: proved {proved:?}, plain {plain:?}\n{}",
+            format!($($what)*),
+            hex($doc)
+        );
+    };
+}
+
+/// A document of a seed: as made, or spoilt once or a few times.
+fn made(random: &mut Random, document: fn(&mut Random) -> Vec<u8>) -> Vec<u8> {
+    let mut doc = document(random);
+    for _ in 0..random.pick(&[0, 0, 1, 1, 1, 2, 4]) {
+        spoil(random, &mut doc);
+    }
+    doc
+}
+
+/// The keys that are looked up: a few texts, and two parts of the document itself.
+fn sought(random: &mut Random, doc: &[u8]) -> Vec<Vec<u8>> {
+    let mut keys = vec![random.text(3), random.text(3)];
+    for _ in 0..2 {
+        let start = random.below(doc.len() + 1);
+        let end = (start + random.below(5)).min(doc.len());
+        keys.push(doc[start..end].to_vec());
+    }
+    keys
+}
+
+/// Runs `one` for every seed, on every processor, and counts the verdicts by their number, 0 for acceptance.
+fn for_all_seeds(one: fn(u64) -> usize) -> [u64; 64] {
+    let (first, count) = (first_seed(), documents());
+    let workers = thread::available_parallelism().map_or(1, |n| n.get() as u64);
+    let runs: Vec<_> = (0..workers)
+        .map(|w| {
+            thread::spawn(move || {
+                let mut verdicts = [0; 64];
+                for seed in (first + w..first + count).step_by(workers as usize) {
+                    verdicts[one(seed)] += 1;
+                }
+                verdicts
+            })
+        })
+        .collect();
+    let mut verdicts = [0; 64];
+    for run in runs {
+        let part = run.join().expect("a document on which the readers differ");
+        for (all, some) in verdicts.iter_mut().zip(part) {
+            *all += some;
+        }
+    }
+    verdicts
+}
+
+/// The number of a verdict, 0 for acceptance.
+fn number(verdict: plain::Answer<()>) -> usize {
+    verdict.map_or_else(|r| r.number as usize, |()| 0)
+}
+
+/// Every verdict of a format must have come up, or the documents do not show what they should.
+fn all_met(format: &str, verdicts: &[u64; 64], numbers: impl Iterator<Item = usize>) {
+    let met = |n: &usize| verdicts[*n] > 0;
+    println!(
+        "{format}: {} documents, {} accepted",
+        documents(),
+        verdicts[0]
+    );
+    let missed: Vec<usize> = numbers.filter(|n| !met(n)).collect();
+    assert!(
+        missed.is_empty() || documents() < 100_000,
+        "{format}: no document was refused with {missed:?}"
+    );
+}
+
+fn binary_json(seed: u64) -> usize {
+    use exports::binary_json as proved;
+    use plain::binary_json as plain;
+    let random = &mut Random::new(seed);
+    let doc = &made(random, differential::binary_json::document);
+    let verdict = proved::check(doc);
+    same!(doc, verdict, plain::check(doc), "seed {seed} check");
+    let keys = sought(random, doc);
+    for at in cursors(doc.len()) {
+        same!(
+            doc,
+            proved::kind_and_size(doc, at),
+            plain::kind_and_size(doc, at),
+            "seed {seed} kind_and_size {at}"
+        );
+        same!(
+            doc,
+            proved::entry_type(doc, at),
+            plain::entry_type(doc, at),
+            "seed {seed} entry_type {at}"
+        );
+        same!(
+            doc,
+            proved::container(doc, at),
+            plain::container(doc, at),
+            "seed {seed} container {at}"
+        );
+        same!(
+            doc,
+            proved::string(doc, at),
+            plain::string(doc, at),
+            "seed {seed} string {at}"
+        );
+        same!(
+            doc,
+            proved::number(doc, at),
+            plain::number(doc, at),
+            "seed {seed} number {at}"
+        );
+        same!(
+            doc,
+            proved::slot(doc, at),
+            plain::slot(doc, at),
+            "seed {seed} slot {at}"
+        );
+        for i in INDICES {
+            same!(
+                doc,
+                proved::element(doc, at, i),
+                plain::element(doc, at, i),
+                "seed {seed} element {at} {i}"
+            );
+            same!(
+                doc,
+                proved::member(doc, at, i),
+                plain::member(doc, at, i),
+                "seed {seed} member {at} {i}"
+            );
+        }
+        for key in &keys {
+            let quick = proved::quick_lookup(doc, at, key);
+            let scan = proved::plain_scan(doc, at, key);
+            same!(
+                doc,
+                quick,
+                plain::quick_lookup(doc, at, key),
+                "seed {seed} quick_lookup {at} {}",
+                hex(key)
+            );
+            same!(
+                doc,
+                scan,
+                plain::plain_scan(doc, at, key),
+                "seed {seed} plain_scan {at} {}",
+                hex(key)
+            );
+        }
+    }
+    number(verdict)
+}
+
+fn fractured_json(seed: u64) -> usize {
+    use exports::fractured_json as proved;
+    use plain::fractured_json as plain;
+    let random = &mut Random::new(!seed);
+    let doc = &made(random, differential::fractured_json::document);
+    let mut table = differential::fractured_json::table(random);
+    let mut other = table.clone();
+    let checked = proved::check(doc, &mut table);
+    let plainly = plain::check(doc, &mut other);
+    same!(
+        doc,
+        checked,
+        plainly,
+        "seed {seed} check, {} words",
+        table.len()
+    );
+    same!(doc, &table, &other, "seed {seed} key table");
+    let mut count = checked.count;
+    if random.once_in(4) {
+        // any words and any count may be handed in
+        table = differential::fractured_json::table(random);
+        count = random.pick(&[0, 1, 2, 3, 6, 4096, 4097, u64::MAX]);
+    }
+    let (keys, table) = (sought(random, doc), &table[..]);
+    for at in cursors(doc.len()) {
+        same!(
+            doc,
+            proved::end(doc, table, count, at),
+            plain::end(doc, table, count, at),
+            "seed {seed} end {at}, table {table:?} count {count}"
+        );
+        same!(
+            doc,
+            proved::kind(doc, at),
+            plain::kind(doc, at),
+            "seed {seed} kind {at}"
+        );
+        same!(
+            doc,
+            proved::number(doc, at),
+            plain::number(doc, at),
+            "seed {seed} number {at}"
+        );
+        same!(
+            doc,
+            proved::string(doc, at),
+            plain::string(doc, at),
+            "seed {seed} string {at}"
+        );
+        for i in INDICES {
+            same!(
+                doc,
+                proved::element(doc, table, count, at, i),
+                plain::element(doc, table, count, at, i),
+                "seed {seed} element {at} {i}, table {table:?} count {count}"
+            );
+            same!(
+                doc,
+                proved::member(doc, table, count, at, i),
+                plain::member(doc, table, count, at, i),
+                "seed {seed} member {at} {i}, table {table:?} count {count}"
+            );
+        }
+        for key in &keys {
+            same!(
+                doc,
+                proved::first_member(doc, table, count, at, key),
+                plain::first_member(doc, table, count, at, key),
+                "seed {seed} first_member {at} {}, table {table:?} count {count}",
+                hex(key)
+            );
+        }
+    }
+    number(checked.verdict)
+}
+
+// Refusals 2 and 32 come up below, with the longest documents.
+
+#[test]
+fn binary_json_agrees() {
+    let verdicts = for_all_seeds(binary_json);
+    all_met("BinaryJson", &verdicts, (0..=13).filter(|&n| n != 2));
+}
+
+#[test]
+fn fractured_json_agrees() {
+    let verdicts = for_all_seeds(fractured_json);
+    all_met(
+        "Fractured JSON",
+        &verdicts,
+        [0].into_iter().chain(31..=43).filter(|&n| n != 32),
+    );
+}
+
+/// Documents at the longest length and one byte more.
+#[test]
+fn longest_documents_agree() {
+    for len in 65_534..=65_538 {
+        let mut binary = vec![0; len];
+        binary[..12].copy_from_slice(&[1, 1, 0, 0, 0, 0, 0, 0, 0, 0, 0, 0]);
+        same!(
+            &binary[..12],
+            exports::binary_json::check(&binary),
+            plain::binary_json::check(&binary),
+            "length {len}"
+        );
+        let mut fractured = b"FJ\x01\x0E".to_vec();
+        fractured.extend(((len - 6) as u16).to_le_bytes());
+        fractured.resize(len, 0x61);
+        same!(
+            &fractured[..6],
+            exports::fractured_json::check(&fractured, &mut []),
+            plain::fractured_json::check(&fractured, &mut []),
+            "length {len}"
+        );
+    }
+}

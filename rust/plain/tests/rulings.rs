@@ -1,0 +1,761 @@
+//! The tests: all rows of the rulings, the papers' specimens and run list, and laws of all answers.
+
+use std::fmt::Write;
+
+use plain::{Answer, Refusal, binary_json, fractured_json};
+
+/// What a lent word holds before the check, so that a word written by mistake is seen.
+const UNTOUCHED: u32 = 0xDEAD_BEEF;
+
+fn from_hex(hex: &str) -> Vec<u8> {
+    if hex == "-" {
+        return Vec::new();
+    }
+    assert!(
+        hex.len().is_multiple_of(2),
+        "odd count of characters: {hex}"
+    );
+    (0..hex.len())
+        .step_by(2)
+        .map(|i| u8::from_str_radix(&hex[i..i + 2], 16).unwrap())
+        .collect()
+}
+
+fn to_hex(text: &[u8]) -> String {
+    if text.is_empty() {
+        return "-".to_string();
+    }
+    text.iter().fold(String::new(), |mut hex, byte| {
+        write!(hex, "{byte:02X}").unwrap();
+        hex
+    })
+}
+
+fn put<T>(answer: Answer<T>, show: impl FnOnce(T) -> String) -> String {
+    match answer {
+        Ok(value) => show(value),
+        Err(Refusal { number, place }) => format!("no {number} {place}"),
+    }
+}
+
+fn put_one(answer: Answer<u64>) -> String {
+    put(answer, |value| format!("ok {value}"))
+}
+
+fn put_two(answer: Answer<(u64, u64)>) -> String {
+    put(answer, |(first, second)| format!("ok {first} {second}"))
+}
+
+/// A text as a part of the document, empty at a refusal.
+fn put_text(doc: &[u8], answer: Answer<(u64, u64)>) -> String {
+    let (place, length) = answer.unwrap_or((0, 0));
+    to_hex(&doc[place as usize..(place + length) as usize])
+}
+
+fn binary_json_answer(doc: &[u8], question: &str, args: &[&str]) -> String {
+    use binary_json::*;
+    let number_arg = |i: usize| args[i].parse::<u64>().unwrap();
+    let text_arg = |i: usize| from_hex(args[i]);
+    match question {
+        "check" => put(check(doc), |()| "ok".to_string()),
+        "kind_and_size" => put_two(kind_and_size(doc, number_arg(0))),
+        "element" => put_one(element(doc, number_arg(0), number_arg(1))),
+        "member" => put_two(member(doc, number_arg(0), number_arg(1))),
+        "entry_type" => put_one(entry_type(doc, number_arg(0))),
+        "container" => put_one(container(doc, number_arg(0))),
+        "string" => put_two(string(doc, number_arg(0))),
+        "string_text" => put_text(doc, string(doc, number_arg(0))),
+        "number" => put_one(number(doc, number_arg(0))),
+        "slot" => put_two(slot(doc, number_arg(0))),
+        "slot_text" => put_text(doc, slot(doc, number_arg(0))),
+        "quick_lookup" => match quick_lookup(doc, number_arg(0), &text_arg(1)) {
+            Ok((Some(entry), strings, keys)) => format!("ok {entry} {strings} {keys}"),
+            Ok((None, strings, keys)) => format!("absent {strings} {keys}"),
+            Err(Refusal { number, place }) => format!("no {number} {place} 0 0"),
+        },
+        "plain_scan" => put(
+            plain_scan(doc, number_arg(0), &text_arg(1)),
+            |found| match found {
+                Some(entry) => format!("ok {entry}"),
+                None => "absent".to_string(),
+            },
+        ),
+        _ => panic!("unknown question {question}"),
+    }
+}
+
+/// The FJ check put as the rulings put it; all words after the pairs must stay.
+fn fractured_json_check(doc: &[u8], table: &mut [u32]) -> String {
+    let before = table.to_vec();
+    let checked = fractured_json::check(doc, table);
+    let pairs = 2 * checked.count as usize;
+    assert_eq!(table[pairs..], before[pairs..], "a word was written");
+    let mut answer = put(checked.verdict, |()| "ok".to_string());
+    write!(answer, " {}", checked.count).unwrap();
+    for word in &table[..pairs] {
+        write!(answer, " {word}").unwrap();
+    }
+    answer
+}
+
+fn fractured_json_answer(
+    doc: &[u8],
+    table: &mut [u32],
+    count: u64,
+    question: &str,
+    args: &[&str],
+) -> String {
+    use fractured_json::*;
+    let number_arg = |i: usize| args[i].parse::<u64>().unwrap();
+    let text_arg = |i: usize| from_hex(args[i]);
+    match question {
+        "check" => fractured_json_check(doc, table),
+        "end" => put_one(end(doc, table, count, number_arg(0))),
+        "kind" => put(kind(doc, number_arg(0)), |(kind, length)| {
+            let name = [
+                "null", "false", "true", "number", "string", "object", "array",
+            ][kind as usize];
+            match length {
+                Some(length) => format!("ok {name} {length}"),
+                None => format!("ok {name}"),
+            }
+        }),
+        "number" => put(number(doc, number_arg(0)), |(byte, bits)| {
+            format!("ok {byte} {bits}")
+        }),
+        "string" => put_two(string(doc, number_arg(0))),
+        "string_text" => put_text(doc, string(doc, number_arg(0))),
+        "element" => put_one(element(doc, table, count, number_arg(0), number_arg(1))),
+        "member" => put_two(member(doc, table, count, number_arg(0), number_arg(1))),
+        "first_member" => put(
+            first_member(doc, table, count, number_arg(0), &text_arg(1)),
+            |found| match found {
+                Some(value) => format!("ok {value}"),
+                None => "absent".to_string(),
+            },
+        ),
+        _ => panic!("unknown question {question}"),
+    }
+}
+
+/// The answer to the part of a row before its equals sign.
+fn answer_of_row(row: &str) -> String {
+    let mut fields = row.split_whitespace().peekable();
+    let format = fields.next().unwrap();
+    let doc = from_hex(fields.next().unwrap());
+    let (mut words, mut table, mut count) = (None, None, 0);
+    while let Some((name, value)) = fields.peek().and_then(|field| field.split_once('=')) {
+        match name {
+            "words" => words = Some(value.parse::<usize>().unwrap()),
+            "table" => table = Some(value.split(',').map(|w| w.parse().unwrap()).collect()),
+            "count" => count = value.parse().unwrap(),
+            _ => panic!("unknown field {name}"),
+        }
+        fields.next();
+    }
+    let question = fields.next().unwrap();
+    let args: Vec<&str> = fields.collect();
+    if format == "B" {
+        return binary_json_answer(&doc, question, &args);
+    }
+    // Without further words, a check has a table of 4,096 keys and a question an empty one.
+    let mut table: Vec<u32> = match table {
+        Some(table) => table,
+        None if question == "check" => vec![UNTOUCHED; words.unwrap_or(8_192)],
+        None => Vec::new(),
+    };
+    if let Some(words) = words {
+        table.resize(words, UNTOUCHED);
+    }
+    fractured_json_answer(&doc, &mut table, count, question, &args)
+}
+
+#[test]
+fn rulings() {
+    let mut wrong = Vec::new();
+    let mut rows = 0;
+    for row in include_str!("../../../crates/rulings/stdin").lines() {
+        let (asked, expected) = row.rsplit_once(" = ").unwrap();
+        let answer = answer_of_row(asked);
+        if answer != expected {
+            wrong.push(format!("{row}\n  answered {answer}"));
+        }
+        rows += 1;
+    }
+    assert!(wrong.is_empty(), "{}", wrong.join("\n"));
+    assert_eq!(rows, 223);
+}
+
+#[test]
+fn specimens() {
+    let a_true = "0102000021000000140000000100000001000000400300006100";
+    let rows = [
+        ("B 010100000000000000000000 check", "ok"),
+        ("B 0101000000000000000000 check", "no 1 11"),
+        ("B 020100000000000000000000 check", "no 3 0"),
+        ("B 010100000300000000000000 check", "no 8 4"),
+        (&format!("B {a_true} check"), "ok"),
+        (&format!("B {a_true} quick_lookup 4 61"), "ok 12 1 1"),
+        (&format!("B {a_true} plain_scan 4 61"), "ok 12"),
+        (&format!("B {a_true} quick_lookup 4 62"), "absent 1 0"),
+        (&format!("B {a_true} plain_scan 4 62"), "absent"),
+        (&format!("B {}01 check", &a_true[..50]), "no 5 20"),
+        (
+            "B 81010000220000000402000000000000000000000000F03F check",
+            "ok",
+        ),
+        (
+            "B 81010000220000000402000000000000000000000000F03F number 8",
+            "ok 4607182418800017408",
+        ),
+        ("B 81010000200000008500000000000000 check", "no 9 8"),
+        ("F 464A016F046102 check", "ok 1 5 1"),
+        ("F 464A01A0BEFD check", "ok 0"),
+        ("F 464A01A0BEFD number 4", "ok 190 18446744073709551584"),
+        ("F 464A01A0BEFD number 5", "ok 253 31"),
+        ("F 464A01A06F0461006F57DF check", "ok 1 6 1"),
+        ("F 464A01FE check", "no 36 3 0"),
+        ("F 464A016F5700 check", "no 38 4 0"),
+        ("F 464A0170046100046101 check", "no 39 7 1 5 1"),
+    ];
+    for (asked, expected) in rows {
+        assert_eq!(answer_of_row(asked), expected, "{asked}");
+    }
+}
+
+/// Rows worked out by hand from the papers: order of refusals, places, ends of areas, pairs.
+#[test]
+fn rows_by_hand() {
+    let rows = [
+        // Empty keys, repeated or cut off.
+        ("F 464A0170030003 words=4 check", "no 39 6 1 5 0"),
+        ("F 464A0170030004 words=4 check", "no 35 6 1 5 0"),
+        ("F 464A0170030000 words=4 check", "no 35 6 1 5 0"),
+        ("F 464A017003000080 words=4 check", "no 35 6 1 5 0"),
+        ("F 464A01700300008080 words=4 check", "no 35 6 1 5 0"),
+        ("F 464A0170030000808004 words=4 check", "no 37 9 1 5 0"),
+        ("F 464A01700300FF words=4 check", "no 36 6 1 5 0"),
+        ("F 464A01700300 words=4 check", "no 35 6 1 5 0"),
+        // The same text in two spellings is met before; a full table does not hide it.
+        (
+            "F 464A0170046100008180006100 words=4 check",
+            "no 39 7 1 5 1",
+        ),
+        (
+            "F 464A0170046100008180006100 words=2 check",
+            "no 39 7 1 5 1",
+        ),
+        // The text's 35 comes before 40, and 40 before anything of the value.
+        ("F 464A016F0561 words=0 check", "no 35 4 0"),
+        ("F 464A016F0461FE words=0 check", "no 40 4 0"),
+        ("F 464A016F57FE words=4 check", "no 38 4 0"),
+        ("F 464A016F0158 words=4 check", "no 38 4 0"),
+        ("F 464A016F018080 words=4 check", "no 35 4 0"),
+        ("F 464A016F02FFFFFF words=4 check", "no 37 7 0"),
+        // A back reference spelled long.
+        ("F 464A01700461000180800002 words=4 check", "ok 1 5 1"),
+        // 43 before what follows; the last finite floats.
+        ("F 464A01A00C000000000000F07FFE check", "no 43 4 0"),
+        ("F 464A010B0000C0FF00 check", "no 43 3 0"),
+        ("F 464A010BFFFF7F7F check", "ok 0"),
+        ("F 464A010CFFFFFFFFFFFFEFFF check", "ok 0"),
+        ("F 464A010CFFFFFFFFFFFFFF check", "no 35 3 0"),
+        // Numbers.
+        ("F 464A010500FF number 3", "ok 5 18446744073709551360"),
+        ("F 464A0106FFFF number 3", "ok 6 65535"),
+        ("F 464A010700000080 number 3", "ok 7 18446744071562067968"),
+        ("F 464A010800000080 number 3", "ok 8 2147483648"),
+        (
+            "F 464A01090000000000000080 number 3",
+            "ok 9 9223372036854775808",
+        ),
+        (
+            "F 464A010C0000000000000080 number 3",
+            "ok 12 9223372036854775808",
+        ),
+        ("F 464A0109FFFFFFFFFFFFFF number 3", "no 35 3"),
+        ("F 464A0102 number 3", "no 21 3"),
+        // Lengths.
+        ("F 464A0110 kind 3", "no 35 3"),
+        ("F 464A0115FFFFFF kind 3", "no 35 3"),
+        ("F 464A0113FF kind 3", "ok array 255"),
+        ("F 464A019D kind 3", "ok object 47"),
+        ("F 464A01BD kind 3", "ok array 31"),
+        // A far pair does not wrap.
+        ("F 464A016F5700 table=4294967295,2 count=1 end 3", "no 38 4"),
+        ("F 464A016F5700 table=2,4294967295 count=1 end 3", "no 38 4"),
+        ("F 464A016F5700 table=2,4 count=1 end 3", "ok 6"),
+        ("F 464A016F5700 table=2,5 count=1 end 3", "no 38 4"),
+        // BinaryJson: the string must be a slot, neither the count before nor the text after them.
+        (
+            "B 810100002000000003020000010000008002000000 string 8",
+            "no 20 8",
+        ),
+        (
+            "B 8101000020000000030200000100000000000000 check",
+            "no 5 16",
+        ),
+        (
+            "B 810100002000000083010000010000008002000000 check",
+            "no 5 16",
+        ),
+        ("B 81010000200000000302000001000000A002000000 check", "ok"),
+        (
+            "B 81010000200000000302000001000000A002000000 string 8",
+            "ok 20 0",
+        ),
+        (
+            "B 81010000200000008301000001000000A002000000 check",
+            "no 9 8",
+        ),
+        (
+            "B 81010000200000008302000001000000A002000000 check",
+            "no 9 8",
+        ),
+        (
+            "B 81010000200000002302000001000000A002000000 check",
+            "no 9 8",
+        ),
+        (
+            "B 81010000200000008302000001000000A002000000 string 8",
+            "no 20 8",
+        ),
+        (
+            "B 81010000200000008302000001000000A002000000 slot 20",
+            "no 20 20",
+        ),
+        (
+            "B 81010000200000008302000001000000A002000000 slot 12",
+            "no 20 12",
+        ),
+        (
+            "B 81010000200000008302000001000000A002000000 slot 16",
+            "ok 20 0",
+        ),
+        // Slot 1 starts where slot 0 says that it ends: before the texts, or just at them.
+        (
+            "B 81010000200000008302000002000000000000002003000000 string 8",
+            "no 20 8",
+        ),
+        (
+            "B 81010000200000008302000002000000E00200002003000000 slot 20",
+            "no 20 20",
+        ),
+        (
+            "B 81010000200000008302000002000000000300002003000000 slot 20",
+            "ok 24 0",
+        ),
+        // A container at the last word of the tree, at its end, and in the header.
+        ("B 81010000200000000501000000000000 container 8", "ok 8"),
+        ("B 81010000200000008501000000000000 container 8", "no 20 8"),
+        ("B 81010000200000000500000000000000 container 8", "no 20 8"),
+        (
+            "B 81010000200000000501000000000000 container 12",
+            "no 20 12",
+        ),
+    ];
+    for (asked, expected) in rows {
+        assert_eq!(answer_of_row(asked), expected, "{asked}");
+    }
+}
+
+fn word(low: u32, high: u32) -> [u8; 4] {
+    (high << 5 | low).to_le_bytes()
+}
+
+/// A BinaryJson document with these tree words, texts and number bytes.
+fn binary_json_document(tree: &[[u8; 4]], texts: &[&[u8]], numbers: &[u8]) -> Vec<u8> {
+    let string_index = 4 + 4 * tree.len() as u32;
+    let mut doc = word(1, string_index).to_vec();
+    doc.extend(tree.concat());
+    doc.extend((texts.len() as u32).to_le_bytes());
+    let mut end = string_index + 4 + 4 * texts.len() as u32;
+    for text in texts {
+        end += text.len() as u32 + 1;
+        doc.extend(word(0, end));
+    }
+    for text in texts {
+        doc.extend(*text);
+        doc.push(0);
+    }
+    doc.extend(numbers);
+    doc
+}
+
+fn refuse<T>(number: u32, place: u64) -> Answer<T> {
+    Err(Refusal { number, place })
+}
+
+/// The check with a table of this many words, and what the table holds afterwards.
+fn fj_check(doc: &[u8], words: usize) -> (fractured_json::Checked, Vec<u32>) {
+    let mut table = vec![UNTOUCHED; words];
+    let checked = fractured_json::check(doc, &mut table);
+    let pairs = 2 * checked.count as usize;
+    assert!(table[pairs..].iter().all(|&word| word == UNTOUCHED));
+    (checked, table)
+}
+
+fn fj_document(value: &[&[u8]]) -> Vec<u8> {
+    let mut doc = b"FJ\x01".to_vec();
+    doc.extend(value.concat());
+    doc
+}
+
+#[test]
+fn longest_documents() {
+    // BinaryJson: an empty array, no strings, and numbers up to the end.
+    let mut doc = binary_json_document(&[word(0, 0)], &[b"abc"], &[]);
+    assert_eq!(doc.len(), 20);
+    doc.resize(65_540, 0);
+    assert_eq!(binary_json::check(&doc), refuse(2, 65_540));
+    assert_eq!(binary_json::check(&doc[..65_537]), refuse(2, 65_537));
+    assert_eq!(binary_json::check(&doc[..65_536]), refuse(7, 20));
+    assert_eq!(binary_json::check(&doc[..65_532]), Ok(()));
+    let mut doc = binary_json_document(&[word(0, 0)], &[b"abcdefg"], &[]);
+    doc.resize(65_537, 0);
+    assert_eq!(binary_json::check(&doc), refuse(2, 65_537));
+    assert_eq!(binary_json::kind_and_size(&doc, 4), refuse(2, 65_537));
+    assert_eq!(binary_json::check(&doc[..65_536]), Ok(()));
+    assert_eq!(binary_json::kind_and_size(&doc[..65_536], 4), Ok((0, 0)));
+
+    // FJ: one string with a 32-bit length.
+    for (length, verdict) in [(65_536, Ok(())), (65_537, refuse(32, 65_537))] {
+        let text = vec![b'x'; length - 8];
+        let doc = fj_document(&[&[0x0F], &(text.len() as u32).to_le_bytes(), &text]);
+        assert_eq!(doc.len(), length);
+        let (checked, _) = fj_check(&doc, 0);
+        assert_eq!(checked.verdict, verdict);
+        assert_eq!(fractured_json::kind(&doc, 3).map(|_| ()), verdict);
+    }
+}
+
+#[test]
+fn deepest_documents() {
+    for (depth, verdict) in [(32, Ok(())), (33, refuse(12, 4 + 8 * 32))] {
+        let mut tree = Vec::new();
+        for level in 1..depth {
+            tree.push(word(0, 1));
+            tree.push(word(5, 4 + 8 * level));
+        }
+        tree.push(word(0, 0));
+        assert_eq!(
+            binary_json::check(&binary_json_document(&tree, &[], &[])),
+            verdict
+        );
+    }
+    for (depth, verdict) in [(32, Ok(())), (33, refuse(41, 3 + 32))] {
+        let doc = fj_document(&[&vec![0x9F; depth - 1], &[0x9E]]);
+        assert_eq!(fj_check(&doc, 0).0.verdict, verdict);
+        let doc = fj_document(&[&vec![0x9F; depth - 1], &[0x6E]]);
+        assert_eq!(fj_check(&doc, 0).0.verdict, verdict);
+    }
+}
+
+/// The object at the cursor is container 1, so its first value may hold 31 more.
+#[test]
+fn nesting_before_the_member_sought() {
+    let object = |nested: usize| {
+        let value = [vec![0x9F; nested - 1], vec![0x9E]].concat();
+        fj_document(&[&[0x70, 0x04, b'a'], &value, &[0x04, b'b', 0x00]])
+    };
+    let doc = object(31);
+    assert_eq!(fractured_json::member(&doc, &[], 0, 3, 1), Ok((37, 39)));
+    let found = fractured_json::first_member(&doc, &[], 0, 3, b"b");
+    assert_eq!(found, Ok(Some(39)));
+    let doc = object(32);
+    assert_eq!(fractured_json::member(&doc, &[], 0, 3, 1), refuse(41, 37));
+    let found = fractured_json::first_member(&doc, &[], 0, 3, b"b");
+    assert_eq!(found, refuse(41, 37));
+    assert_eq!(fractured_json::end(&doc, &[], 0, 6), Ok(38));
+}
+
+#[test]
+fn strings_of_87_and_88_bytes() {
+    let text = [b's'; 88];
+    let doc = fj_document(&[&[0x6D], &text[..87]]);
+    assert_eq!(fj_check(&doc, 0).0.verdict, Ok(()));
+    assert_eq!(fractured_json::string(&doc, 3), Ok((4, 87)));
+    assert_eq!(fj_check(&doc[..90], 0).0.verdict, refuse(35, 3));
+    let doc = fj_document(&[&[0x0D, 88], &text]);
+    assert_eq!(fj_check(&doc, 0).0.verdict, Ok(()));
+    assert_eq!(fractured_json::string(&doc, 3), Ok((5, 88)));
+    // 6E is an empty object, so the texts after it are too many.
+    let doc = fj_document(&[&[0x6E], &text]);
+    assert_eq!(fj_check(&doc, 0).0.verdict, refuse(42, 4));
+    for length in [87_u64, 88] {
+        let content = &text[..length as usize];
+        let doc = binary_json_document(&[word(0, 1), word(3, 16)], &[content], &[]);
+        assert_eq!(binary_json::check(&doc), Ok(()));
+        assert_eq!(binary_json::string(&doc, 8), Ok((20, length)));
+    }
+}
+
+#[test]
+fn keys_of_83_and_84_bytes() {
+    let text = [b'k'; 84];
+    let doc = fj_document(&[&[0x6F, 0x56], &text[..83], &[0x00]]);
+    let (checked, table) = fj_check(&doc, 3);
+    assert_eq!((checked.verdict, checked.count), (Ok(()), 1));
+    assert_eq!(table[..2], [5, 83]);
+    assert_eq!(fractured_json::member(&doc, &[], 0, 3, 0), Ok((4, 88)));
+    let doc = fj_document(&[&[0x6F, 0x00, 84], &text, &[0x00]]);
+    let (checked, table) = fj_check(&doc, 2);
+    assert_eq!((checked.verdict, checked.count), (Ok(()), 1));
+    assert_eq!(table[..2], [6, 84]);
+    assert_eq!(fractured_json::member(&doc, &[], 0, 3, 0), Ok((4, 90)));
+    // 57 is a back reference, not a key of 84 bytes.
+    let doc = fj_document(&[&[0x6F, 0x57], &text, &[0x00]]);
+    assert_eq!(fj_check(&doc, 2).0.verdict, refuse(38, 4));
+}
+
+#[test]
+fn index_ffff03_and_ffff04() {
+    for (key_byte, number, place) in [(0x00, 35, 4), (0x01, 38, 4), (0x02, 38, 4)] {
+        let doc = fj_document(&[&[0x6F, key_byte, 0xFF, 0xFF, 0x03, 0x00]]);
+        assert_eq!(fj_check(&doc, 2).0.verdict, refuse(number, place));
+        let doc = fj_document(&[&[0x6F, key_byte, 0xFF, 0xFF, 0x04, 0x00]]);
+        assert_eq!(fj_check(&doc, 2).0.verdict, refuse(37, 7));
+    }
+    // A key of 65,535 bytes can never fit; the longest that does has 65,527.
+    let length = 65_527_u32;
+    let spelling = [length as u8 | 0x80, (length >> 7) as u8 | 0x80, 0x03];
+    let doc = fj_document(&[&[0x6F, 0x00], &spelling, &[b'k'; 65_527], &[0x00]]);
+    assert_eq!(doc.len(), 65_536);
+    let (checked, table) = fj_check(&doc, 2);
+    assert_eq!((checked.verdict, checked.count), (Ok(()), 1));
+    assert_eq!(table, [8, length]);
+    // Index 65,535 in a table handed in: over 4,096 keys there is no room.
+    let doc = fj_document(&[&[0x6F, 0x01, 0xFF, 0xFF, 0x03, 0x00]]);
+    let table = vec![0; 131_072];
+    assert_eq!(fractured_json::end(&doc, &table, 65_536, 3), refuse(38, 4));
+}
+
+#[test]
+fn full_key_table_and_one_key_more() {
+    let object = |keys: usize| {
+        let mut doc = fj_document(&[&[0x11], &(keys as u16).to_le_bytes()]);
+        for k in 0..keys {
+            doc.extend([0x05, k as u8, (k >> 8) as u8, 0x02]);
+        }
+        doc
+    };
+    // A table larger than 4,096 keys is used only so far.
+    for words in [8_192, 8_193, 10_000] {
+        let (checked, table) = fj_check(&object(4_096), words);
+        assert_eq!((checked.verdict, checked.count), (Ok(()), 4_096));
+        assert_eq!(table[8_190..8_192], [7 + 4 * 4_095, 2]);
+        let (checked, _) = fj_check(&object(4_097), words);
+        assert_eq!(checked.verdict, refuse(40, 6 + 4 * 4_096));
+        assert_eq!(checked.count, 4_096);
+    }
+    for (words, room) in [(0, 0), (1, 0), (2, 1), (3, 1), (8, 4), (9, 4)] {
+        let (checked, _) = fj_check(&object(room), words);
+        assert_eq!((checked.verdict, checked.count), (Ok(()), room as u64));
+        let (checked, _) = fj_check(&object(room + 1), words);
+        assert_eq!(checked.verdict, refuse(40, 6 + 4 * room as u64));
+        assert_eq!(checked.count, room as u64);
+    }
+    // The last key of a full table is found by its index, and a count over 4,096 is over the room.
+    let mut doc = object(4_096);
+    doc[4..6].copy_from_slice(&4_097_u16.to_le_bytes());
+    doc.extend([0x01, 0xFF, 0x1F, 0x02]);
+    let (checked, table) = fj_check(&doc, 8_194);
+    assert_eq!((checked.verdict, checked.count), (Ok(()), 4_096));
+    let last = doc.len() as u64 - 4;
+    let ask = |count| fractured_json::member(&doc, &table, count, 3, 4_096);
+    assert_eq!(ask(4_096), Ok((last, last + 3)));
+    assert_eq!(ask(4_095), refuse(38, last));
+    assert_eq!(ask(4_097), refuse(38, last));
+    assert_eq!(ask(u64::MAX), refuse(38, last));
+}
+
+#[test]
+fn empty_documents_and_far_cursors() {
+    let far = [
+        0,
+        1,
+        2,
+        3,
+        4,
+        1 << 31,
+        1 << 32,
+        (1 << 32) + 4,
+        1 << 62,
+        u64::MAX - 4,
+        u64::MAX - 3,
+        u64::MAX,
+    ];
+    assert_eq!(binary_json::check(&[]), refuse(1, 0));
+    assert_eq!(fj_check(&[], 2).0.verdict, refuse(31, 0));
+    let array = from_hex("010100000000000000000000");
+    let list = from_hex("464A01A06F0461006F57DF");
+    for &cursor in &far {
+        assert_eq!(binary_json::slot(&[], cursor), refuse(1, 0));
+        assert_eq!(fractured_json::kind(&[], cursor), refuse(31, 0));
+        if cursor != 4 {
+            assert_eq!(
+                binary_json::kind_and_size(&array, cursor),
+                refuse(20, cursor)
+            );
+            assert_eq!(binary_json::entry_type(&array, cursor), refuse(20, cursor));
+        }
+        assert_eq!(binary_json::slot(&array, cursor), refuse(20, cursor));
+        if cursor < 3 {
+            assert_eq!(fractured_json::kind(&list, cursor), refuse(20, cursor));
+        } else if cursor > 10 {
+            assert_eq!(fractured_json::kind(&list, cursor), refuse(35, cursor));
+            assert_eq!(
+                fractured_json::end(&list, &[], 0, cursor),
+                refuse(35, cursor)
+            );
+        }
+        if cursor > 1 {
+            assert_eq!(binary_json::element(&array, 4, cursor), refuse(22, 4));
+            assert_eq!(
+                fractured_json::element(&list, &[], 0, 3, cursor),
+                refuse(22, 3)
+            );
+            assert_eq!(
+                fractured_json::member(&list, &[], 0, 4, cursor),
+                refuse(22, 4)
+            );
+        }
+    }
+}
+
+/// A small xorshift generator: the same numbers in every run.
+struct Random(u64);
+
+impl Random {
+    fn below(&mut self, bound: usize) -> usize {
+        self.0 ^= self.0 << 13;
+        self.0 ^= self.0 >> 7;
+        self.0 ^= self.0 << 17;
+        (self.0 >> 11) as usize % bound
+    }
+
+    /// The document with a few bytes changed, removed, added or swapped for one that often matters.
+    fn spoil(&mut self, doc: &[u8]) -> Vec<u8> {
+        let mut doc = doc.to_vec();
+        for _ in 0..self.below(4) {
+            if doc.is_empty() {
+                break;
+            }
+            let at = self.below(doc.len());
+            match self.below(6) {
+                0 => doc[at] = self.below(256) as u8,
+                1 => doc[at] ^= 1 << self.below(8),
+                2 => doc[at] = doc[at].wrapping_add(4),
+                3 => doc.truncate(at),
+                4 => doc.insert(at, [0x00, 0x04, 0x57, 0x9F, 0xFF][self.below(5)]),
+                _ => doc[at] = doc[self.below(doc.len())],
+            }
+        }
+        doc
+    }
+}
+
+/// Documents of the rulings in one format.
+fn ruling_documents(format: &str) -> Vec<Vec<u8>> {
+    let mut documents: Vec<_> = include_str!("../../../crates/rulings/stdin")
+        .lines()
+        .filter_map(|row| row.strip_prefix(format)?.split_whitespace().next())
+        .map(from_hex)
+        .collect();
+    documents.sort();
+    documents.dedup();
+    documents
+}
+
+/// Every question is answered for any bytes, and in an accepted document both lookups agree.
+#[test]
+fn spoilt_binary_json() {
+    use binary_json::*;
+    let documents = ruling_documents("B");
+    let mut random = Random(1);
+    let mut accepted = 0;
+    for _ in 0..20_000 {
+        let doc = random.spoil(&documents[random.0 as usize % documents.len()]);
+        let good = check(&doc).is_ok();
+        accepted += u32::from(good);
+        let texts: Vec<&[u8]> = (0..doc.len() as u64)
+            .filter_map(|offset| slot(&doc, offset).ok())
+            .map(|(place, length)| &doc[place as usize..][..length as usize])
+            .chain([&b""[..], b"a", b"zz"])
+            .collect();
+        let containers: Vec<u64> = (0..doc.len() as u64)
+            .filter_map(|cursor| container(&doc, cursor).ok())
+            .chain([4])
+            .collect();
+        for cursor in 0..doc.len() as u64 + 2 {
+            let kind = kind_and_size(&doc, cursor);
+            for i in [0, 1, 2, u64::MAX] {
+                let (element, member) = (element(&doc, cursor, i), member(&doc, cursor, i));
+                if let Ok((kind, size)) = kind {
+                    assert_eq!(element.is_ok(), kind != 1 && i < size);
+                    assert!(member.is_err() || (kind == 1 && i < size));
+                }
+            }
+            if let Ok(offset) = container(&doc, cursor) {
+                assert!(!good || kind_and_size(&doc, offset).is_ok());
+                assert_eq!(entry_type(&doc, cursor), Ok(5));
+            }
+            if string(&doc, cursor).is_ok() {
+                assert_eq!(entry_type(&doc, cursor), Ok(3));
+            }
+            if let Ok(bits) = number(&doc, cursor) {
+                assert!(f64::from_bits(bits).is_finite());
+                assert_eq!(entry_type(&doc, cursor), Ok(4));
+            }
+            for text in &texts {
+                let quick = quick_lookup(&doc, cursor, text);
+                let scan = plain_scan(&doc, cursor, text);
+                if good && containers.contains(&cursor) {
+                    assert_eq!(quick.map(|(found, _, _)| found), scan);
+                }
+            }
+        }
+    }
+    assert!(accepted > 1_000, "only {accepted} accepted");
+}
+
+/// Every question is answered for any bytes, and the check and the questions agree.
+#[test]
+fn spoilt_fractured_json() {
+    use fractured_json::*;
+    let documents = ruling_documents("F");
+    let mut random = Random(2);
+    let mut accepted = 0;
+    for _ in 0..20_000 {
+        let doc = random.spoil(&documents[random.0 as usize % documents.len()]);
+        let (checked, table) = fj_check(&doc, 2 * random.below(4));
+        let count = checked.count;
+        if checked.verdict.is_ok() {
+            accepted += 1;
+            assert_eq!(end(&doc, &table, count, 3), Ok(doc.len() as u64));
+        }
+        for cursor in 0..doc.len() as u64 + 2 {
+            let whole = end(&doc, &table, count, cursor);
+            let kind = kind(&doc, cursor);
+            assert!(whole.is_err() || kind.is_ok());
+            for i in [0, 1, 2, u64::MAX] {
+                let element = element(&doc, &table, count, cursor, i);
+                let member = member(&doc, &table, count, cursor, i);
+                if let (Ok(_), Ok((kind, length))) = (whole, kind) {
+                    let inside = length.is_some_and(|length| i < length);
+                    assert_eq!(element.is_ok(), kind == 6 && inside);
+                    assert_eq!(member.is_ok(), kind == 5 && inside);
+                }
+            }
+            for key in [&b""[..], b"a", b"b"] {
+                let found = first_member(&doc, &table, count, cursor, key);
+                if let (Ok(_), Ok((kind, _))) = (whole, kind) {
+                    assert_eq!(found.is_ok(), kind == 5);
+                }
+            }
+            assert!(whole.is_err() || number(&doc, cursor).is_ok() == (kind.unwrap().0 == 3));
+            assert!(whole.is_err() || string(&doc, cursor).is_ok() == (kind.unwrap().0 == 4));
+        }
+    }
+    assert!(accepted > 1_000, "only {accepted} accepted");
+}
