@@ -22,15 +22,15 @@ use Rattle.binary_json_rules.specs.Halving.{digits, turnsOf}
 use Rattle.binary_json_rules.specs.Lookup.{Found, counted, quickLookup, textHalving, keyTurns, plainScan}
 use Rattle.binary_json_rules.specs.Answers.{sizedAs, typedAs}
 use Rattle.binary_json_rules.proofs.Demands as Rules
-use Rattle.binary_json_questions.specs.Told.{toldSized, toldTree, toldMember, toldType, toldSpan, toldBits, toldScan, toldLookup}
-use Rattle.binary_json_questions.specs.declared.answers.Sized.{Sized}
-use Rattle.binary_json_questions.specs.declared.answers.TreeAt.{TreeAt}
-use Rattle.binary_json_questions.specs.declared.answers.MemberAt.{MemberAt}
-use Rattle.binary_json_questions.specs.declared.answers.Typed.{Typed}
-use Rattle.binary_json_questions.specs.declared.answers.Span.{Span}
-use Rattle.binary_json_questions.specs.declared.answers.Bits.{Bits}
-use Rattle.binary_json_questions.specs.declared.answers.Scanned.{Scanned}
-use Rattle.binary_json_questions.specs.declared.answers.Looked.{Looked}
+use Rattle.binary_json_answers.specs.Told.{toldSized, toldTree, toldMember, toldType, toldSpan, toldBits, toldScan, toldLookup}
+use Rattle.binary_json_answers.specs.declared.Sized.{Sized}
+use Rattle.binary_json_answers.specs.declared.TreeAt.{TreeAt}
+use Rattle.binary_json_answers.specs.declared.MemberAt.{MemberAt}
+use Rattle.binary_json_answers.specs.declared.Typed.{Typed}
+use Rattle.binary_json_answers.specs.declared.Span.{Span}
+use Rattle.binary_json_answers.specs.declared.Bits.{Bits}
+use Rattle.binary_json_answers.specs.declared.Scanned.{Scanned}
+use Rattle.binary_json_answers.specs.declared.Looked.{Looked}
 
 -- ---- Demand 1: "Bad input is refused with the number and place that document 01 fixes."
 

@@ -16,7 +16,7 @@ use Rattle.binary_json_rules.specs.Areas.{high, index, count, slot, text, numbe
 use Rattle.binary_json_rules.specs.Questions.{opening, treeWord}
 use Rattle.binary_json_rules.proofs.Complete.{eq→eqb}
 use Rattle.binary_json_areas.specs.Laid.{Framed, Headed, Laid}
-use Rattle.binary_json_areas.specs.Asking.{Open, Opens, WordNamed, Placed}
+use Rattle.binary_json_areas.specs.Asking.{Open, Opens, WordNamed, Placed, Places}
 use Rattle.binary_json_areas.specs.declared.areas.Areas.{Areas}
 use Rattle.binary_json_areas.specs.declared.areas.Header.{Header}
 use Rattle.binary_json_areas.specs.declared.asking.Asking.{Asking}
@@ -150,3 +150,9 @@ comes-to doc a c rest x = then _ _ tt (x .open-at .opens) ∙ then _ _ tt (x .wo
 pub stops-before : {A : Type 0} (doc : List ℕ) (c : ℕ) (rest : Reading (Unit {0}) A) {n p : ℕ} → ask (opening doc c >>= λ _. treeWord doc c c) ≡ refuses n p
     → ask (opening doc c >>= λ _. treeWord doc c c >>= λ _. rest) ≡ refuses n p
 stops-before doc c rest h = sym (assoc _ _ (λ _. rest) tt) ∙ stops _ _ tt h
+
+pub place-of : (doc : List ℕ) (c : ℕ) (p : Asking) → Places doc c p → (a : Areas) → p ≡ Asking.Of a → Placed doc a c
+place-of doc c p x a e = rw e at x
+
+pub meta-inside : (doc : List ℕ) (a : Areas) (c : ℕ) → Placed doc a c → c + 4 ≤ length doc
+meta-inside doc a c x = let i = x .inside in let s = x .open-at .laid .framed .slots-inside in omega arith

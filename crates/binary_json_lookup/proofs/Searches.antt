@@ -29,13 +29,13 @@ use Rattle.binary_json_rules.proofs.Complete.{slot-named}
 use Rattle.binary_json_rules.proofs.Trees.{slot-at}
 use Rattle.binary_json_areas.specs.Laid.{Laid}
 use Rattle.binary_json_areas.specs.Naming.{TextNamed}
-use Rattle.binary_json_questions.specs.Objects.{ObjectAt, ObjectRead}
+use Rattle.binary_json_metas.specs.Objects.{ObjectAt, ObjectRead}
 use Rattle.binary_json_lookup.specs.Lookups.{TextCompared, toldItem, stringItems, toldHalving, Within}
 use Rattle.binary_json_areas.specs.declared.areas.Areas.{Areas}
 use Rattle.binary_json_lookup.specs.declared.lookup.Compared.{Compared}
 use Rattle.binary_json_lookup.specs.declared.lookup.Halving.{Halving}
 use Rattle.binary_json_areas.specs.declared.named.Texted.{Texted}
-use Rattle.binary_json_questions.specs.declared.questions.Object.{Object}
+use Rattle.binary_json_metas.specs.declared.Object.{Object}
 use Rattle.binary_json_areas.proofs.Headers.{slot-is}
 
 -- ---- a text against a key

@@ -3,9 +3,9 @@ use binary_json_areas::areas::Areas;
 use binary_json_areas::named::Texted;
 use binary_json_areas::offsets::SlotOffset;
 use binary_json_areas::offsets::TreeOffset;
-use binary_json_questions::answers::Looked;
-use binary_json_questions::answers::Scanned;
-use binary_json_questions::questions::Object;
+use binary_json_answers::Looked;
+use binary_json_answers::Scanned;
+use binary_json_metas::Object;
 use json::Order;
 use json::Refusal;
 ghost use mathlib.Core.Path.{_≡_};
@@ -16,9 +16,9 @@ ghost use Rattle.json.specs.Reading.{ask};
 ghost use Rattle.binary_json_rules.specs.Areas.{slot};
 ghost use Rattle.binary_json_rules.specs.Lookup.{strings, keys, afterKeys, quickLookup, plainScan};
 ghost use Rattle.binary_json_areas.specs.Laid.{Laid};
-ghost use Rattle.binary_json_questions.specs.Objects.{ObjectAt};
+ghost use Rattle.binary_json_metas.specs.Objects.{ObjectAt};
 ghost use Rattle.binary_json_lookup.specs.Lookups.{TextCompared, toldItem, toldHalving, Within, stringItems};
-ghost use Rattle.binary_json_questions.specs.Told.{toldScan, toldLookup};
+ghost use Rattle.binary_json_answers.specs.Told.{toldScan, toldLookup};
 
 // How an item compares with what is sought, or that it cannot be read.
 pub enum Compared {
@@ -167,7 +167,7 @@ pub fn quick_lookup(doc: &[u8], cursor: TreeOffset, key: &[u8]) -> Looked
     ensures { λ r. ⌜ toldLookup r ≡ ask (quickLookup (now (doc .entry)) (cursor .0) (now (key .entry))) ⌝ }
 {
     let c = cursor.0;
-    let o = binary_json_questions::questions::object_at(doc, c);
+    let o = binary_json_metas::object_at(doc, c);
     match o {
         Object::Refused(r) => Looked::Refused(r),
         Object::Of(a, n) => look(doc, a, c, n, key),
@@ -210,7 +210,7 @@ pub fn plain_scan(doc: &[u8], cursor: TreeOffset, key: &[u8]) -> Scanned
     ensures { λ r. ⌜ toldScan r ≡ ask (plainScan (now (doc .entry)) (cursor .0) (now (key .entry))) ⌝ }
 {
     let c = cursor.0;
-    let o = binary_json_questions::questions::object_at(doc, c);
+    let o = binary_json_metas::object_at(doc, c);
     match o {
         Object::Refused(r) => Scanned::Refused(r),
         Object::Of(a, n) => scan(doc, a, c, n, key),

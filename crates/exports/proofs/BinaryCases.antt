@@ -6,17 +6,17 @@ use borrow.Author.Needs.{needs}
 use Rattle.json.specs.Reading.{told}
 use Rattle.json.specs.declared.Refusal.{Refusal}
 use Rattle.json.specs.declared.Verdict.{Verdict}
-use Rattle.binary_json_questions.specs.declared.answers.Sized.{Sized}
-use Rattle.binary_json_questions.specs.declared.answers.TreeAt.{TreeAt}
-use Rattle.binary_json_questions.specs.declared.answers.MemberAt.{MemberAt}
-use Rattle.binary_json_questions.specs.declared.answers.Typed.{Typed}
-use Rattle.binary_json_questions.specs.declared.answers.Span.{Span}
-use Rattle.binary_json_questions.specs.declared.answers.Bits.{Bits}
-use Rattle.binary_json_questions.specs.declared.answers.Scanned.{Scanned}
-use Rattle.binary_json_questions.specs.declared.answers.Looked.{Looked}
+use Rattle.binary_json_answers.specs.declared.Sized.{Sized}
+use Rattle.binary_json_answers.specs.declared.TreeAt.{TreeAt}
+use Rattle.binary_json_answers.specs.declared.MemberAt.{MemberAt}
+use Rattle.binary_json_answers.specs.declared.Typed.{Typed}
+use Rattle.binary_json_answers.specs.declared.Span.{Span}
+use Rattle.binary_json_answers.specs.declared.Bits.{Bits}
+use Rattle.binary_json_answers.specs.declared.Scanned.{Scanned}
+use Rattle.binary_json_answers.specs.declared.Looked.{Looked}
 use Rattle.binary_json_areas.specs.declared.offsets.TreeOffset.{TreeOffset}
 use Rattle.binary_json_areas.specs.declared.offsets.SlotOffset.{SlotOffset}
-use Rattle.binary_json_questions.specs.Told.{toldSized, toldTree, toldMember, toldType, toldSpan, toldBits, toldScan, toldLookup}
+use Rattle.binary_json_answers.specs.Told.{toldSized, toldTree, toldMember, toldType, toldSpan, toldBits, toldScan, toldLookup}
 use Rattle.exports.specs.Encoding.{hands, given, code, coded, nothing, one, spanned, sized, memberAt, found, counted}
 
 module _ (words after : List ℕ) (r : ℕ) where

@@ -23,7 +23,7 @@ ghost use Rattle.json.specs.Reading.{ask, told};
 ghost use Rattle.binary_json_rules.specs.Verdict.{verdict};
 ghost use Rattle.binary_json_rules.specs.Questions.{kindAndSize, element, memberAt as member, entryType, containerAt, stringAt, numberAt, slotText};
 ghost use Rattle.binary_json_rules.specs.Lookup.{quickLookup, plainScan};
-ghost use Rattle.binary_json_questions.specs.Told.{toldSized, toldTree, toldMember, toldType, toldSpan, toldBits, toldScan, toldLookup};
+ghost use Rattle.binary_json_answers.specs.Told.{toldSized, toldTree, toldMember, toldType, toldSpan, toldBits, toldScan, toldLookup};
 ghost use Rattle.exports.specs.Encoding.{hands, given, handed, coded, nothing, one, spanned, sized, memberAt, found, counted};
 
 // ---- answers as numbers

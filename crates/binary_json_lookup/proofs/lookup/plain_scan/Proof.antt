@@ -5,7 +5,7 @@ use Rattle.binary_json_lookup.proofs.lookup.plain_scan.Tie as tie
 use Rattle.binary_json_lookup.proofs.lookup.plain_scan.Reads as reads
 use Rattle.binary_json_lookup.proofs.lookup.plain_scan.Lts as lts
 use Rattle.binary_json_lookup.proofs.lookup.scan.Reads as scan-reads
-use Rattle.binary_json_questions.proofs.questions.object_at.Reads as object-at-reads
+use Rattle.binary_json_metas.proofs.object_at.Reads as object-at-reads
 
 -- src/lookup.rt:204:9
 object-at-requires : tie.Need-object-at-requires

@@ -5,7 +5,7 @@ use Rattle.binary_json_lookup.proofs.lookup.quick_lookup.Tie as tie
 use Rattle.binary_json_lookup.proofs.lookup.quick_lookup.Reads as reads
 use Rattle.binary_json_lookup.proofs.lookup.quick_lookup.Lts as lts
 use Rattle.binary_json_lookup.proofs.lookup.look.Reads as look-reads
-use Rattle.binary_json_questions.proofs.questions.object_at.Reads as object-at-reads
+use Rattle.binary_json_metas.proofs.object_at.Reads as object-at-reads
 
 -- src/lookup.rt:164:9
 object-at-requires : tie.Need-object-at-requires

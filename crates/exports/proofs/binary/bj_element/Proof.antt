@@ -3,7 +3,7 @@ use Rattle.exports.proofs.binary.bj_element.Statement.{statement}
 use Rattle.exports.proofs.binary.bj_element.Tie as tie
 use Rattle.exports.proofs.binary.bj_element.Reads as reads
 use Rattle.exports.proofs.binary.bj_element.Lts as lts
-use Rattle.binary_json_questions.proofs.questions.element.Reads as element-reads
+use Rattle.binary_json_metas.proofs.element.Reads as element-reads
 use Rattle.exports.proofs.binary.give_tree.Reads as give-tree-reads
 
 returns : tie.Need-returns

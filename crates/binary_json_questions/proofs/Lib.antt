@@ -1,2 +1,0 @@
-pub mod Metas
-pub mod Entries
