@@ -1,10 +1,10 @@
 // Looking a key up in an object: by halving, with both counts, and by a plain scan.
+use binary_json_answers::Looked;
+use binary_json_answers::Scanned;
 use binary_json_areas::areas::Areas;
 use binary_json_areas::named::Texted;
 use binary_json_areas::offsets::SlotOffset;
 use binary_json_areas::offsets::TreeOffset;
-use binary_json_answers::Looked;
-use binary_json_answers::Scanned;
 use binary_json_metas::Object;
 use json::Order;
 use json::Refusal;
