@@ -4,13 +4,13 @@ use mathlib.Core.List.{List, [], _∷_}
 use Prim.Native.Nat.{ℕ}
 use borrow.Author.Needs.{needs}
 use Rattle.json.specs.declared.Refusal.{Refusal}
-use Rattle.fractured_json_questions.specs.declared.answers.Place.{Place}
-use Rattle.fractured_json_questions.specs.declared.answers.Kind.{Kind}
-use Rattle.fractured_json_questions.specs.declared.answers.Number.{Number}
-use Rattle.fractured_json_questions.specs.declared.answers.Text.{Text}
-use Rattle.fractured_json_questions.specs.declared.answers.Member.{Member}
-use Rattle.fractured_json_questions.specs.declared.answers.Found.{Found}
-use Rattle.fractured_json_questions.specs.Told.{toldPlace, toldKind, toldNumber, toldText, toldMember, toldFound}
+use Rattle.fractured_json_answers.specs.declared.Place.{Place}
+use Rattle.fractured_json_answers.specs.declared.Kind.{Kind}
+use Rattle.fractured_json_answers.specs.declared.Number.{Number}
+use Rattle.fractured_json_answers.specs.declared.Text.{Text}
+use Rattle.fractured_json_answers.specs.declared.Member.{Member}
+use Rattle.fractured_json_answers.specs.declared.Found.{Found}
+use Rattle.fractured_json_answers.specs.Told.{toldPlace, toldKind, toldNumber, toldText, toldMember, toldFound}
 use Rattle.exports.specs.Encoding.{hands, given, code, coded, one, spanned, kind, bits, keyAndValue, valueAt}
 
 module _ (words after : List ℕ) (r : ℕ) where

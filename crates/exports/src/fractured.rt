@@ -19,7 +19,7 @@ ghost use Rattle.json.specs.Choose.{choose};
 ghost use Rattle.json.specs.Reading.{ask, told};
 ghost use Rattle.fractured_json_rules.specs.KeyTable.{checked};
 ghost use Rattle.fractured_json_rules.specs.Questions.{endOf, kind as kindAt, numberAt, stringAt, elementAt, memberAt, firstMember};
-ghost use Rattle.fractured_json_questions.specs.Told.{toldPlace, toldKind, toldNumber, toldText, toldMember, toldFound};
+ghost use Rattle.fractured_json_answers.specs.Told.{toldPlace, toldKind, toldNumber, toldText, toldMember, toldFound};
 ghost use Rattle.exports.specs.Encoding.{hands, given, handed, coded, one, spanned, kind, bits, keyAndValue, valueAt, checkedBy};
 
 // ---- answers as numbers

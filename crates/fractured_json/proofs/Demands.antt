@@ -23,14 +23,14 @@ use Rattle.fractured_json_rules.specs.Questions as Questions
 use Rattle.fractured_json_rules.specs.Answers.{kindOf, valueOf}
 use Rattle.fractured_json_rules.proofs.Demands as Rules
 use Rattle.fractured_json_check.specs.Told.{toldChecked}
-use Rattle.fractured_json_questions.specs.Told.{toldPlace, toldKind, toldNumber, toldText, toldMember, toldFound}
+use Rattle.fractured_json_answers.specs.Told.{toldPlace, toldKind, toldNumber, toldText, toldMember, toldFound}
 use Rattle.fractured_json_check.specs.declared.answers.Checked.{Checked}
-use Rattle.fractured_json_questions.specs.declared.answers.Place.{Place}
-use Rattle.fractured_json_questions.specs.declared.answers.Kind.{Kind}
-use Rattle.fractured_json_questions.specs.declared.answers.Number.{Number}
-use Rattle.fractured_json_questions.specs.declared.answers.Text.{Text}
-use Rattle.fractured_json_questions.specs.declared.answers.Member.{Member}
-use Rattle.fractured_json_questions.specs.declared.answers.Found.{Found}
+use Rattle.fractured_json_answers.specs.declared.Place.{Place}
+use Rattle.fractured_json_answers.specs.declared.Kind.{Kind}
+use Rattle.fractured_json_answers.specs.declared.Number.{Number}
+use Rattle.fractured_json_answers.specs.declared.Text.{Text}
+use Rattle.fractured_json_answers.specs.declared.Member.{Member}
+use Rattle.fractured_json_answers.specs.declared.Found.{Found}
 
 -- ---- the case of an answer, from what it says
 

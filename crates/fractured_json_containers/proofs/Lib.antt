@@ -1,0 +1,5 @@
+pub mod Forms
+pub mod AskedKeys
+pub mod AskedWalk
+pub mod LookupLaws
+pub mod QuestionLaws

@@ -1,0 +1,80 @@
+// The first member of an object by its key.
+use crate::skip::KeyText;
+use crate::skip::read_key;
+use crate::skip::skip;
+use fractured_json_answers::Found;
+use fractured_json_answers::Place;
+use fractured_json_values::limits::INNER;
+use fractured_json_values::texts::same;
+use fractured_json_values::texts::text_of;
+use json::Refusal;
+ghost use mathlib.Core.Path.{_≡_};
+ghost use Rattle.json.specs.Reading.{ask};
+ghost use Rattle.fractured_json_rules.specs.Questions.{findIn};
+ghost use Rattle.fractured_json_containers.specs.Asked.{Looks};
+ghost use Rattle.fractured_json_answers.specs.Told.{toldFound};
+
+// What one member says of the first member with a key.
+pub enum Look {
+    Here(usize),
+    Absent,
+    Next(usize),
+    Refused(Refusal),
+}
+
+// The member at a place, with `later` members behind it. Behind the last key nothing is read.
+fn look_at(doc: &[u8], keys: &[u32], count: usize, x: &[u8], at: usize, later: usize) -> Look
+    ensures { λ r. ⌜ Looks (now (doc .entry)) (now (keys .entry)) count (now (x .entry)) later at r ⌝ }
+{
+    let k = read_key(doc, keys, count, at);
+    match k {
+        KeyText::Refused(r) => Look::Refused(r),
+        KeyText::At { start, len, past } => {
+            if same(text_of(doc, start, len), x) {
+                return Look::Here(past);
+            }
+            if later == 0 {
+                return Look::Absent;
+            }
+            let w = skip(doc, keys, count, past, INNER);
+            match w {
+                Place::Refused(r) => Look::Refused(r),
+                Place::At(next) => Look::Next(next),
+            }
+        }
+    }
+}
+
+// The first member with the key `x` of the `n` members from a place on.
+pub(crate) fn find(
+    doc: &[u8],
+    keys: &[u32],
+    count: usize,
+    x: &[u8],
+    n: usize,
+    first: usize,
+) -> Found
+    ensures { λ r. ⌜ toldFound r ≡ ask (findIn (now (doc .entry)) (now (keys .entry)) count (now (x .entry)) n first) ⌝ }
+{
+    let mut at = first;
+    let mut left = n;
+    while 0 < left {
+        let l = look_at(doc, keys, count, x, at, left - 1);
+        match l {
+            Look::Here(p) => {
+                return Found::At(p);
+            }
+            Look::Absent => {
+                return Found::Absent;
+            }
+            Look::Refused(r) => {
+                return Found::Refused(r);
+            }
+            Look::Next(next) => {
+                at = next;
+            }
+        }
+        left -= 1;
+    }
+    Found::Absent
+}

@@ -1,0 +1,129 @@
+// The questions that go by the key table: where a value ends, an element, a member, and the first member by its key. Each is right
+// for all bytes, cursors, key tables and counts, and reads only what it needs, in the order of the rules.
+use crate::lookup::find;
+use crate::skip::KeyText;
+use crate::skip::read_key;
+use crate::skip::skip;
+use crate::skip::skip_entries;
+use fractured_json_answers::Found;
+use fractured_json_answers::Member;
+use fractured_json_answers::Place;
+use fractured_json_scalars::enter::open_question;
+use fractured_json_scalars::enter::wanted;
+use fractured_json_values::limits::DEEPEST;
+use fractured_json_values::limits::INNER;
+use fractured_json_values::values::Counted;
+use json::Refusal;
+use json::Verdict;
+ghost use mathlib.Core.Path.{_≡_};
+ghost use Rattle.json.specs.Reading.{ask};
+ghost use Rattle.fractured_json_rules.specs.Questions.{endOf, elementFrom, elementAt, memberFrom, memberAt, firstMember};
+ghost use Rattle.fractured_json_answers.specs.Told.{toldPlace, toldMember, toldFound};
+
+// The kinds that a length is asked of.
+const OBJECT: u8 = 9;
+
+const ARRAY: u8 = 10;
+
+// Where the value at the cursor ends.
+pub fn end(doc: &[u8], keys: &[u32], count: usize, at: usize) -> Place
+    ensures { λ r. ⌜ toldPlace r ≡ ask (endOf (now (doc .entry)) (now (keys .entry)) count at) ⌝ }
+{
+    let o = open_question(doc, at);
+    match o {
+        Verdict::Refused(r) => Place::Refused(r),
+        Verdict::Accepted => skip(doc, keys, count, at, DEEPEST),
+    }
+}
+
+// Element i of the array at the cursor, whose n values start at `first`.
+fn element_from(
+    doc: &[u8],
+    keys: &[u32],
+    count: usize,
+    at: usize,
+    i: usize,
+    n: usize,
+    first: usize,
+) -> Place
+    ensures { λ r. ⌜ toldPlace r ≡ ask (elementFrom (now (doc .entry)) (now (keys .entry)) count at i n first) ⌝ }
+{
+    if n <= i {
+        return Place::Refused(Refusal {
+            number: 22,
+            place: at,
+        });
+    }
+    skip_entries(doc, keys, count, first, i, false, INNER)
+}
+
+// Where element i of the array at the cursor stands.
+pub fn element(doc: &[u8], keys: &[u32], count: usize, at: usize, i: usize) -> Place
+    ensures { λ r. ⌜ toldPlace r ≡ ask (elementAt (now (doc .entry)) (now (keys .entry)) count at i) ⌝ }
+{
+    let n = wanted(doc, at, ARRAY);
+    match n {
+        Counted::Refused(r) => Place::Refused(r),
+        Counted::Is { number, past } => element_from(doc, keys, count, at, i, number, past),
+    }
+}
+
+// Member j of the object at the cursor, whose n members start at `first`.
+fn member_from(
+    doc: &[u8],
+    keys: &[u32],
+    count: usize,
+    at: usize,
+    j: usize,
+    n: usize,
+    first: usize,
+) -> Member
+    ensures { λ r. ⌜ toldMember r ≡ ask (memberFrom (now (doc .entry)) (now (keys .entry)) count at j n first) ⌝ }
+{
+    if n <= j {
+        return Member::Refused(Refusal {
+            number: 22,
+            place: at,
+        });
+    }
+    let w = skip_entries(doc, keys, count, first, j, true, INNER);
+    match w {
+        Place::Refused(r) => Member::Refused(r),
+        Place::At(o) => {
+            let k = read_key(doc, keys, count, o);
+            match k {
+                KeyText::Refused(r) => Member::Refused(r),
+                KeyText::At {
+                    start: _,
+                    len: _,
+                    past,
+                } => Member::At {
+                    key: o,
+                    value: past,
+                },
+            }
+        }
+    }
+}
+
+// Where the key byte and the value of member j of the object at the cursor stand.
+pub fn member(doc: &[u8], keys: &[u32], count: usize, at: usize, j: usize) -> Member
+    ensures { λ r. ⌜ toldMember r ≡ ask (memberAt (now (doc .entry)) (now (keys .entry)) count at j) ⌝ }
+{
+    let n = wanted(doc, at, OBJECT);
+    match n {
+        Counted::Refused(r) => Member::Refused(r),
+        Counted::Is { number, past } => member_from(doc, keys, count, at, j, number, past),
+    }
+}
+
+// Where the value of the first member with the key `x` of the object at the cursor stands, or absent.
+pub fn first_member(doc: &[u8], keys: &[u32], count: usize, at: usize, x: &[u8]) -> Found
+    ensures { λ r. ⌜ toldFound r ≡ ask (firstMember (now (doc .entry)) (now (keys .entry)) count at (now (x .entry))) ⌝ }
+{
+    let n = wanted(doc, at, OBJECT);
+    match n {
+        Counted::Refused(r) => Found::Refused(r),
+        Counted::Is { number, past } => find(doc, keys, count, x, number, past),
+    }
+}

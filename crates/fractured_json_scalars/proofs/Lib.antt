@@ -1,0 +1,5 @@
+pub mod Forms
+pub mod Entering
+pub mod KindLaws
+pub mod NumberLaws
+pub mod QuestionLaws

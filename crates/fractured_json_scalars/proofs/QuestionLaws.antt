@@ -1,0 +1,84 @@
+-- One law for each way through the questions of questions.rt.
+use mathlib.Core.Path.{_≡_, sym, ap, _∙_}
+use mathlib.Core.List.{List}
+use Prim.Native.Nat.{ℕ, _+_, _-_, _≤_, _<_}
+use native.Mathlib.Omega.{arith}
+use borrow.Author.Needs.{needs}
+use lib.Dec.{le→leb}
+use lib.ListN.{length}
+use Rattle.json.specs.Bytes.{part}
+use Rattle.json.specs.Reading.{Asked, ask, answers, refuses, _>>=_}
+use Rattle.json.specs.declared.Refusal.{Refusal}
+use Rattle.json.proofs.Reading.{pass, fail}
+use Rattle.fractured_json_rules.specs.ByteTables.{formOf}
+use Rattle.fractured_json_rules.specs.Questions.{Kind, kindBy, kind, Bits, numberBy, numberAt, stringBy, stringAt, stringBytes}
+use Rattle.fractured_json_values.specs.Opened.{Counts}
+use Rattle.fractured_json_scalars.specs.Asked.{Enters, wantedAt}
+use Rattle.fractured_json_answers.specs.Told.{toldText}
+use Rattle.fractured_json_answers.specs.declared.Text.{Text}
+use Rattle.fractured_json_scalars.specs.declared.enter.Entered.{Entered}
+use Rattle.fractured_json_values.specs.declared.values.Counted.{Counted}
+use Rattle.fractured_json_scalars.proofs.Entering.{entered-inside, enters-refused, enters-read, asks-behind, behind-length, length-refused, length-read}
+use Rattle.fractured_json_scalars.proofs.Forms.{stringRest, string-form}
+use Rattle.fractured_json_values.proofs.Opening.{over, counts-inside}
+
+-- ---- its kind, and its number
+
+module _ (doc : List ℕ) (at : ℕ) (e : Entered) (es : Enters doc at e) where
+  pub kind-refused : (r : Refusal) → e ≡ Entered.Refused r → refuses (r .number) (r .place) ≡ ask (kind doc at)
+  unfolding kind
+  kind-refused r q = sym (asks-behind doc at _ ∙ enters-refused doc at _ e es r q)
+
+  pub kind-read : (b : ℕ) (r : Asked Kind) → e ≡ Entered.Type b → r ≡ ask (kindBy doc at (formOf b)) → r ≡ ask (kind doc at)
+  unfolding kind
+  kind-read b r q h = h ∙ sym (asks-behind doc at _ ∙ enters-read doc at (λ x. kindBy doc at (formOf x)) e es b q)
+
+  pub number-refused : (r : Refusal) → e ≡ Entered.Refused r → refuses (r .number) (r .place) ≡ ask (numberAt doc at)
+  unfolding numberAt
+  number-refused r q = sym (asks-behind doc at _ ∙ enters-refused doc at _ e es r q)
+
+  pub number-read : (b : ℕ) (r : Asked Bits) → e ≡ Entered.Type b → r ≡ ask (numberBy doc at b (formOf b)) → r ≡ ask (numberAt doc at)
+  unfolding numberAt
+  number-read b r q h = h ∙ sym (asks-behind doc at _ ∙ enters-read doc at (λ x. numberBy doc at x (formOf x)) e es b q)
+
+pub ruleset kind-laws = (entered-inside, kind-refused, kind-read, needs)
+
+pub ruleset number-laws = (entered-inside, number-refused, number-read, needs)
+
+-- ---- its string
+
+module _ (doc : List ℕ) (at : ℕ) (c : Counted) (cs : Counts (length doc) (ask (wantedAt doc at 8)) c) where
+  string-behind : ask (stringAt doc at) ≡ ask (wantedAt doc at 8 >>= λ n. stringRest doc at (n .is) (n .past))
+  unfolding stringAt
+  string-behind = behind-length doc at 8 (stringBy doc at) (λ n. stringRest doc at (n .is) (n .past)) (string-form doc at)
+
+  pub string-refused : (r : Refusal) → c ≡ Counted.Refused r → refuses (r .number) (r .place) ≡ ask (stringAt doc at)
+  string-refused r q = sym (string-behind ∙ length-refused doc at 8 _ c cs r q)
+
+  module _ (n p : ℕ) (q : c ≡ Counted.Is n p) where
+    text-by : ask (stringAt doc at) ≡ ask (stringRest doc at n p)
+    text-by = string-behind ∙ length-read doc at 8 (λ n. stringRest doc at (n .is) (n .past)) c cs n p q
+
+    pub text-outside : length doc - p < n → refuses 35 at ≡ ask (stringAt doc at)
+    text-outside h =
+        let i = counts-inside (length doc) _ c n p cs q in
+        let o : length doc < p + n = omega arith in
+        sym (text-by ∙ fail _ _ _ _ tt (over o))
+
+    pub text-inside : n ≤ length doc - p → answers (record { place = p; len = n }) ≡ ask (stringAt doc at)
+    text-inside h =
+        let i = counts-inside (length doc) _ c n p cs q in
+        let o : p + n ≤ length doc = omega arith in
+        sym (text-by ∙ pass _ _ _ _ tt (le→leb _ _ o))
+
+pub ruleset string-laws = (counts-inside, string-refused, text-outside, text-inside, needs)
+
+-- and its text
+module _ (doc : List ℕ) (at : ℕ) (t : Text) (ts : toldText t ≡ ask (stringAt doc at)) where
+  pub no-text : (r : Refusal) (x : List ℕ) → t ≡ Text.Refused r → x ≡ part doc 0 0 → x ≡ stringBytes doc at
+  no-text r x q e = let w : ask (stringAt doc at) ≡ refuses (r .number) (r .place) = sym ts ∙ ap toldText q in rw w e
+
+  pub text-read : (p n : ℕ) (x : List ℕ) → t ≡ Text.At p n → x ≡ part doc p n → x ≡ stringBytes doc at
+  text-read p n x q e = let w : ask (stringAt doc at) ≡ answers (record { place = p; len = n }) = sym ts ∙ ap toldText q in rw w e
+
+pub ruleset string-text-laws = (no-text, text-read, needs)

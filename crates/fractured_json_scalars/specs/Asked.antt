@@ -1,0 +1,74 @@
+-- The code's own way through the rules of what every question reads first, of kinds and of numbers: by what the constant tables
+-- say. proofs/ shows that each is the rules'.
+use Prim.Native.Nat.{ℕ, _+_, _-_, _*_, _^_, _<_}
+use mathlib.Core.List.{List}
+use mathlib.Core.Path.{_≡_}
+use lib.Dec.{ltb, eqb}
+use lib.ListN.{length}
+use Rattle.json.specs.Choose.{choose}
+use Rattle.json.specs.Reading.{Reading, ask, answers, refuses, answer, refuse, _>>=_, _>>_, need}
+use Rattle.fractured_json_rules.specs.ByteTables.{formOf}
+use Rattle.fractured_json_rules.specs.Verdict.{byteAt, Counted}
+use Rattle.fractured_json_rules.specs.Questions.{opening, Kind, isNull, isFalse, isTrue, isNumber, isString, isObject, isArray, Bits}
+use Rattle.fractured_json_values.specs.Heads.{headOf}
+use Rattle.fractured_json_values.specs.Opened.{sizedAt, finiteKind}
+use Rattle.fractured_json_values.specs.declared.types.Head.{Head}
+use Rattle.fractured_json_scalars.specs.declared.enter.Entered.{Entered}
+
+-- ---- before every question but the end: the type byte at the cursor
+
+unfoldable pub entering : {S : Type 0} → List ℕ → ℕ → Reading S ℕ
+entering doc c = do
+  opening doc c
+  byteAt doc c c
+
+abbrev pub Enters : List ℕ → ℕ → Entered → Type 0
+Enters doc c (Entered.Type b) = (ask (entering doc c) ≡ answers b) × (c < length doc)
+Enters doc c (Entered.Refused r) = ask (entering doc c) ≡ refuses (r .number) (r .place)
+
+-- ---- the length of a string (8), object (9) or array (10), and where what it measures starts; 21 of any other kind
+
+unfoldable pub wantedHead : {S : Type 0} → List ℕ → ℕ → ℕ → Head → Reading S Counted
+wantedHead doc c want h = choose (eqb (h .kind) 11) (refuse 36 c) (choose (eqb (h .kind) want) (sizedAt doc c (h .width) (h .tiny)) (refuse 21 c))
+
+unfoldable pub wantedAt : {S : Type 0} → List ℕ → ℕ → ℕ → Reading S Counted
+wantedAt doc c want = do
+  b ← entering doc c
+  wantedHead doc c want (headOf (formOf b))
+
+-- ---- kinds
+
+unfoldable pub scalarKind : ℕ → Kind
+scalarKind kind = choose (eqb kind 0) isNull (choose (eqb kind 1) isFalse (choose (eqb kind 2) isTrue isNumber))
+
+unfoldable pub sizedKind : ℕ → ℕ → Kind
+sizedKind kind n = choose (eqb kind 8) (isString n) (choose (eqb kind 9) (isObject n) (isArray n))
+
+unfoldable pub kindHead : {S : Type 0} → List ℕ → ℕ → Head → Reading S Kind
+kindHead doc c h =
+    choose (ltb (h .kind) 8) (answer (scalarKind (h .kind)))
+    (choose (eqb (h .kind) 11) (refuse 36 c) (sizedAt doc c (h .width) (h .tiny) >>= λ n. answer (sizedKind (h .kind) (n .is))))
+
+-- ---- numbers
+
+-- a number of so many bytes, extended by its sign to 64 bits; and a tiny int, by its place in its range
+abbrev pub extendedBy : ℕ → ℕ → ℕ
+extendedBy width n = choose (ltb n (2 ^ (8 * width - 1))) n (n + (2 ^ 64 - 2 ^ (8 * width)))
+
+abbrev pub tinyBy : ℕ → ℕ
+tinyBy n = choose (ltb n 32) (2 ^ 64 - (32 - n)) (n - 32)
+
+abbrev pub bitsOf : ℕ → ℕ → Bits
+bitsOf b n = record { type = b; bits = n }
+
+-- a number of kind 3 to 7, with the payload n
+unfoldable pub numberKind : {S : Type 0} → ℕ → ℕ → ℕ → ℕ → ℕ → Reading S Bits
+numberKind c b kind width n =
+    choose (eqb kind 3) (answer (bitsOf b (extendedBy width n)))
+    (choose (eqb kind 5) (answer (bitsOf b (tinyBy n))) (need (finiteKind kind n) 43 c >>= λ _. answer (bitsOf b n)))
+
+unfoldable pub numberHead : {S : Type 0} → List ℕ → ℕ → ℕ → Head → Reading S Bits
+numberHead doc c b h =
+    choose (eqb (h .kind) 11) (refuse 36 c)
+    (choose (ltb (h .kind) 3) (refuse 21 c)
+    (choose (ltb 7 (h .kind)) (refuse 21 c) (sizedAt doc c (h .width) (h .tiny) >>= λ n. numberKind c b (h .kind) (h .width) (n .is))))
