@@ -1,4 +1,3 @@
 // Both readers for callers in C or Rust: each call of `binary_json` and `fractured_json`, over numbers and lent slices.
 pub mod binary;
 pub mod fractured;
-mod words;

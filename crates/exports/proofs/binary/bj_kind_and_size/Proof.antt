@@ -4,7 +4,7 @@ use Rattle.exports.proofs.binary.bj_kind_and_size.Tie as tie
 use Rattle.exports.proofs.binary.bj_kind_and_size.Reads as reads
 use Rattle.exports.proofs.binary.bj_kind_and_size.Lts as lts
 use Rattle.binary_json_metas.proofs.kind_and_size.Reads as kind-and-size-reads
-use Rattle.exports.proofs.binary.give_sized.Reads as give-sized-reads
+use Rattle.encoding.proofs.binary.give_sized.Reads as give-sized-reads
 
 returns : tie.Need-returns
 returns c = search handing-laws

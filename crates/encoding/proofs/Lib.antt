@@ -1,0 +1,3 @@
+pub mod WordLaws
+pub mod BinaryCases
+pub mod FracturedCases

@@ -1,0 +1,34 @@
+use Rattle.encoding.proofs.WordLaws.{word-laws}
+use Rattle.encoding.proofs.words.four.Statement.{statement}
+use Rattle.encoding.proofs.words.four.Tie as tie
+use Rattle.encoding.proofs.words.four.Reads as reads
+use Rattle.encoding.proofs.words.four.Lts as lts
+
+slice-write-out : tie.Need-slice-write-out
+slice-write-out c = search word-laws
+
+slice-write-out-2 : tie.Need-slice-write-out-2
+slice-write-out-2 c = search word-laws
+
+slice-write-out-3 : tie.Need-slice-write-out-3
+slice-write-out-3 c = search word-laws
+
+slice-write-out-4 : tie.Need-slice-write-out-4
+slice-write-out-4 c = search word-laws
+
+same-length : tie.Need-same-length
+same-length c = search word-laws
+
+returns : tie.Need-returns
+returns c = search word-laws
+
+pub four-spec : {M : Type 1} → statement M
+four-spec =
+    tie.close
+    (tie.spec
+    slice-write-out
+    slice-write-out-2
+    slice-write-out-3
+    slice-write-out-4
+    same-length
+    returns)

@@ -1,0 +1,4 @@
+// Answers as numbers: what is returned, and what is written over the lent words.
+pub mod binary;
+pub mod fractured;
+pub mod words;
