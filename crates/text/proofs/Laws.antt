@@ -1,20 +1,23 @@
 -- What two texts' order is, from a place up to which they agree: one law for each way through `compare`.
-use mathlib.Core.Path.{_≡_, refl}
+use mathlib.Core.Path.{_≡_, refl, sym, subst, _∙_}
+use mathlib.Core.Bool.{Bool, true}
 use mathlib.Core.List.{List}
-use Prim.Native.Nat.{ℕ, _+_, _≤_, _<_}
+use Prim.Native.Nat.{ℕ, zero, suc, _+_, _-_, _≤_, _<_}
 use native.Mathlib.Numerals.{add-one}
 use native.Mathlib.Omega.{arith}
 use borrow.Author.Needs.{needs}
 use borrow.Author.Tests.{lt-ltb, le-ltb}
-use lib.ListN.{length, drop, getD, drop-of-length-le}
+use mir.Syntax.{w8}
+use mir.Val.{Fits}
+use lib.Dec.{T, eqb, eqb→eq}
+use lib.ListN.{length, take, drop, getD, drop-of-length-le}
 use lib.Seq.{drop-cons}
+use Rattle.json.specs.Bytes.{Bytes, number}
 use Rattle.json.specs.Choose.{choose}
+use Rattle.word.proofs.Laws.{number-part}
 use Rattle.json.specs.Texts.{byNumbers, compareTexts}
+use Rattle.text.specs.Agreement.{Agree}
 use Rattle.json.specs.declared.Order.the-variants.{Below, Equal, Above}
-
--- the order of what follows place i is the order of the texts
-unfoldable pub Agree : List ℕ → List ℕ → ℕ → Type 0
-Agree a b i = compareTexts (drop i a) (drop i b) ≡ compareTexts a b
 
 pub agree-first : (a b : List ℕ) → Agree a b 0
 unfolding Agree
@@ -47,4 +50,29 @@ module _ (a b : List ℕ) (i : ℕ) (here : Agree a b i) where
   unfolding compareTexts Agree
   both-end ha hb = rw (drop-of-length-le a ha, drop-of-length-le b hb) at here
 
-pub ruleset answers = (agree-first, byte-below, byte-above, byte-equal, second-ends, first-ends, both-end, needs)
+-- ---- eight bytes at a step
+
+-- texts whose next n bytes make the same number agree in them
+same-bytes : (a b : List ℕ) → Bytes a → Bytes b → (n i : ℕ) → i + n ≤ length a → i + n ≤ length b → number a i n ≡ number b i n → Agree a b i → Agree a b (i + n)
+unfolding number
+same-bytes a b ga gb zero i ha hb e h = let z : i + 0 ≡ i = omega arith in rw z h
+same-bytes a b ga gb (suc n) i ha hb e h =
+    let x = ga i in
+    let y = gb i in
+    let first : getD a i 0 ≡ getD b i 0 = omega arith in
+    let rest : number a (i + 1) n ≡ number b (i + 1) n = omega arith in
+    let next = byte-equal a b i h (omega arith) (omega arith) (omega arith) (omega arith) in
+    let s : i + 1 + n ≡ i + suc n = omega arith in
+    rw s at (same-bytes a b ga gb n (i + 1) (omega arith) (omega arith) rest next)
+
+pub eight-read : (a b : List ℕ) (i x y : ℕ) → x ≡ number (take (length a - i) (drop i a)) 0 8 → y ≡ number (take (length b - i) (drop i b)) 0 8
+    → eqb x y ≡ eqb (number a i 8) (number b i 8)
+eight-read a b i x y ex ey = rw (ex, ey, number-part a i 8, number-part b i 8)
+
+pub eight-equal : (a b : List ℕ) (i n : ℕ) (r : Bool) → r ≡ eqb (number a i 8) (number b i 8) → r ≡ true → ((k : ℕ) → Fits w8 (getD a k 0)) → ((k : ℕ) → Fits w8 (getD b k 0))
+    → n ≤ length a → n ≤ length b → 8 ≤ n - i → Agree a b i → Agree a b (i + 8)
+eight-equal a b i n r e t ga gb ha hb h g =
+    let yes : T (eqb (number a i 8) (number b i 8)) = subst T (sym t ∙ e) tt in
+    same-bytes a b (λ k. ga k .fits) (λ k. gb k .fits) 8 i (omega arith) (omega arith) (eqb→eq (number a i 8) (number b i 8) yes) g
+
+pub ruleset answers = (agree-first, eight-read, eight-equal, byte-below, byte-above, byte-equal, second-ends, first-ends, both-end, needs)

@@ -1,13 +1,53 @@
 // The order of two texts.
 use json::Order;
 ghost use mathlib.Core.Path.{_≡_};
+ghost use Prim.Native.Nat.{_+_, _≤_};
+ghost use lib.Dec.{eqb};
+ghost use lib.ListN.{length};
+ghost use Rattle.json.specs.Bytes.{number};
 ghost use Rattle.json.specs.Texts.{compareTexts};
+ghost use Rattle.text.specs.Agreement.{Agree};
+
+fn shorter(a: &[u8], b: &[u8]) -> usize
+    ensures { λ r. ⌜ (r ≤ length (now (a .entry))) × (r ≤ length (now (b .entry))) ⌝ }
+{
+    if a.len() < b.len() {
+        return a.len();
+    }
+    b.len()
+}
+
+// Whether the eight bytes at a place are the same in both texts.
+fn same_eight(a: &[u8], b: &[u8], i: usize) -> bool
+    requires { ⌜ (i + 8 ≤ length (now a)) × (i + 8 ≤ length (now b)) ⌝ }
+    ensures { λ r. ⌜ r ≡ eqb (number (now (a .entry)) i 8) (number (now (b .entry)) i 8) ⌝ }
+{
+    let x = word::eight(&a[i..]);
+    let y = word::eight(&b[i..]);
+    x == y
+}
+
+// A place up to which the texts agree, found eight bytes at a step.
+fn agree(a: &[u8], b: &[u8]) -> usize
+    ensures { λ r. ⌜ (r ≤ length (now (a .entry))) × Agree (now (a .entry)) (now (b .entry)) r ⌝ }
+{
+    let n = shorter(a, b);
+    let mut i = 0;
+    while 8 <= n - i {
+        if same_eight(a, b, i) {
+            i += 8;
+        } else {
+            return i;
+        }
+    }
+    i
+}
 
 // The first text against the second, as unsigned bytes; a prefix is below the longer.
 pub fn compare(a: &[u8], b: &[u8]) -> Order
     ensures { λ r. ⌜ r ≡ compareTexts (now (a .entry)) (now (b .entry)) ⌝ }
 {
-    let mut i = 0;
+    let mut i = agree(a, b);
     while i < a.len() {
         if b.len() <= i {
             return Order::Above;

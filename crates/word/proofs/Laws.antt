@@ -64,10 +64,13 @@ module _ (s : List ℕ) (at k value x : ℕ) (h : k < 8) (e : value ≡ number s
 pub all-read : (s : List ℕ) (at n i value : ℕ) → i ≤ n → n ≤ i → value ≡ number s at i → value ≡ number s at n
 all-read s at n i value l m e = let o : n ≡ i = omega arith in rw o e
 
+pub of-width : (s : List ℕ) (at n m value : ℕ) → n ≡ m → value ≡ number s at m → value ≡ number s at n
+of-width s at n m value e v = rw e v
+
 pub word-fits : (s : List ℕ) (at value : ℕ) → value ≡ number s at 4 → ((i : ℕ) → Fits w8 (getD s i 0)) → Fits w32 value
 word-fits s at value e g = record { fits = rw e (number-below 4 s at 4 (omega arith) (λ i. g i .fits)) }
 
-pub ruleset integer-laws = (number-none, one-more, one-more-fits, all-read, word-fits, needs)
+pub ruleset integer-laws = (number-none, one-more, one-more-fits, all-read, of-width, word-fits, needs)
 
 -- read from the part that begins at a place
 number-dropped : (s : List ℕ) (at o n : ℕ) → number (drop at s) o n ≡ number s (at + o) n

@@ -19,8 +19,58 @@ fn more(s: &[u8], at: usize, k: usize, value: u64) -> u64
     value + (wide(s[at + k]) << (8 * k))
 }
 
+// One, two, four and eight bytes at a place, written out, so that they are one load wherever this is inlined.
+fn one(s: &[u8], at: usize) -> u64
+    requires { ⌜ at + 1 ≤ length (now s) ⌝ }
+    ensures { λ r. ⌜ r ≡ number (now (s .entry)) at 1 ⌝ }
+{
+    more(s, at, 0, 0)
+}
+
+fn two(s: &[u8], at: usize) -> u64
+    requires { ⌜ at + 2 ≤ length (now s) ⌝ }
+    ensures { λ r. ⌜ r ≡ number (now (s .entry)) at 2 ⌝ }
+{
+    more(s, at, 1, one(s, at))
+}
+
+fn four(s: &[u8], at: usize) -> u64
+    requires { ⌜ at + 4 ≤ length (now s) ⌝ }
+    ensures { λ r. ⌜ r ≡ number (now (s .entry)) at 4 ⌝ }
+{
+    more(s, at, 3, more(s, at, 2, two(s, at)))
+}
+
+fn eight_at(s: &[u8], at: usize) -> u64
+    requires { ⌜ at + 8 ≤ length (now s) ⌝ }
+    ensures { λ r. ⌜ r ≡ number (now (s .entry)) at 8 ⌝ }
+{
+    let six = more(s, at, 5, more(s, at, 4, four(s, at)));
+    more(s, at, 7, more(s, at, 6, six))
+}
+
 // The number that the n bytes at a place make, for every n.
 pub fn integer(s: &[u8], at: usize, n: usize) -> u64
+    requires { ⌜ (n ≤ 8) × (at + n ≤ length (now s)) ⌝ }
+    ensures { λ r. ⌜ r ≡ number (now (s .entry)) at n ⌝ }
+{
+    if n == 1 {
+        return one(s, at);
+    }
+    if n == 8 {
+        return eight_at(s, at);
+    }
+    if n == 4 {
+        return four(s, at);
+    }
+    if n == 2 {
+        return two(s, at);
+    }
+    any(s, at, n)
+}
+
+// The same, byte by byte.
+fn any(s: &[u8], at: usize, n: usize) -> u64
     requires { ⌜ (n ≤ 8) × (at + n ≤ length (now s)) ⌝ }
     ensures { λ r. ⌜ r ≡ number (now (s .entry)) at n ⌝ }
 {
@@ -33,21 +83,12 @@ pub fn integer(s: &[u8], at: usize, n: usize) -> u64
     value
 }
 
-// The four bytes at a place, written out, so that they are one load wherever this is inlined.
-fn four(s: &[u8], at: usize) -> u64
-    requires { ⌜ at + 4 ≤ length (now s) ⌝ }
-    ensures { λ r. ⌜ r ≡ number (now (s .entry)) at 4 ⌝ }
-{
-    more(s, at, 3, more(s, at, 2, more(s, at, 1, more(s, at, 0, 0))))
-}
-
 // The number that the first eight bytes make: a reader is handed the part of the document that begins at the number.
 pub fn eight(s: &[u8]) -> u64
     requires { ⌜ 8 ≤ length (now s) ⌝ }
     ensures { λ r. ⌜ r ≡ number (now (s .entry)) 0 8 ⌝ }
 {
-    let six = more(s, 0, 5, more(s, 0, 4, four(s, 0)));
-    more(s, 0, 7, more(s, 0, 6, six))
+    eight_at(s, 0)
 }
 
 // The word at a place: four bytes.

@@ -1,10 +1,12 @@
 use Prim.Native.Nat.{_-_, _≤_}
 use lib.ListN.{length}
-use Rattle.text.proofs.Laws.{Agree, answers}
+use Rattle.text.specs.Agreement.{Agree}
+use Rattle.text.proofs.Laws.{answers}
 use Rattle.text.proofs.compare.Statement.{statement}
 use Rattle.text.proofs.compare.Tie as tie
 use Rattle.text.proofs.compare.Reads as reads
 use Rattle.text.proofs.compare.Lts as lts
+use Rattle.text.proofs.agree.Reads as agree-reads
 
 abbrev Inv-loop : tie.InvT-loop
 Inv-loop a b i₀ i = (i ≤ length a) × Agree a b i
@@ -12,47 +14,39 @@ Inv-loop a b i₀ i = (i ≤ length a) × Agree a b i
 abbrev μ-loop : tie.MeasureT-loop
 μ-loop a b i₀ i = length a - i
 
--- src/lib.rt:11:5
+agree-requires : tie.Need-agree-requires Inv-loop μ-loop
+agree-requires c κs = search answers
+
 loop-holds : tie.Need-loop-holds Inv-loop μ-loop
 loop-holds c = search answers
 
--- src/lib.rt:13:13
 returns : tie.Need-returns Inv-loop μ-loop
 returns c = search answers
 
--- src/lib.rt:15:17
 shared-slice-read-x : tie.Need-shared-slice-read-x Inv-loop μ-loop
 shared-slice-read-x c = search answers
 
--- src/lib.rt:16:17
 shared-slice-read-y : tie.Need-shared-slice-read-y Inv-loop μ-loop
 shared-slice-read-y c = search answers
 
--- src/lib.rt:18:13
 returns-2 : tie.Need-returns-2 Inv-loop μ-loop
 returns-2 c = search answers
 
--- src/lib.rt:21:13
 returns-3 : tie.Need-returns-3 Inv-loop μ-loop
 returns-3 c = search answers
 
--- src/lib.rt:23:9
 add-i : tie.Need-add-i Inv-loop μ-loop
 add-i c = search answers
 
--- src/lib.rt:11:5
 loop-less : tie.Need-loop-less Inv-loop μ-loop
 loop-less c = search answers
 
--- src/lib.rt:11:5
 loop-again : tie.Need-loop-again Inv-loop μ-loop
 loop-again c = search answers
 
--- src/lib.rt:26:9
 returns-4 : tie.Need-returns-4 Inv-loop μ-loop
 returns-4 c = search answers
 
--- src/lib.rt:7:1
 returns-5 : tie.Need-returns-5 Inv-loop μ-loop
 returns-5 c = search answers
 
@@ -62,6 +56,7 @@ compare-spec =
     (tie.spec
     Inv-loop
     μ-loop
+    agree-requires
     loop-holds
     returns
     shared-slice-read-x

@@ -1,0 +1,58 @@
+use Prim.Native.Nat.{_-_, _≤_}
+use Rattle.text.specs.Agreement.{Agree}
+use Rattle.text.proofs.Laws.{answers}
+use Rattle.text.proofs.agree.Statement.{statement}
+use Rattle.text.proofs.agree.Tie as tie
+use Rattle.text.proofs.agree.Reads as reads
+use Rattle.text.proofs.agree.Lts as lts
+use Rattle.text.proofs.same_eight.Reads as same-eight-reads
+use Rattle.text.proofs.shorter.Reads as shorter-reads
+
+abbrev Inv-loop : tie.InvT-loop
+Inv-loop a b n i₀ i = (i ≤ n) × Agree a b i
+
+abbrev μ-loop : tie.MeasureT-loop
+μ-loop a b n i₀ i = n - i
+
+shorter-requires : tie.Need-shorter-requires Inv-loop μ-loop
+shorter-requires c κs = search answers
+
+loop-holds : tie.Need-loop-holds Inv-loop μ-loop
+loop-holds c = search answers
+
+sub-loop : tie.Need-sub-loop Inv-loop μ-loop
+sub-loop c = search answers
+
+same-eight-requires : tie.Need-same-eight-requires Inv-loop μ-loop
+same-eight-requires c κs = search answers
+
+add-i : tie.Need-add-i Inv-loop μ-loop
+add-i c = search answers
+
+loop-less : tie.Need-loop-less Inv-loop μ-loop
+loop-less c = search answers
+
+loop-again : tie.Need-loop-again Inv-loop μ-loop
+loop-again c = search answers
+
+returns : tie.Need-returns Inv-loop μ-loop
+returns c = search answers
+
+returns-2 : tie.Need-returns-2 Inv-loop μ-loop
+returns-2 c = search answers
+
+pub agree-spec : {M : Type 1} → statement M
+agree-spec =
+    tie.close
+    (tie.spec
+    Inv-loop
+    μ-loop
+    shorter-requires
+    loop-holds
+    sub-loop
+    same-eight-requires
+    add-i
+    loop-less
+    loop-again
+    returns
+    returns-2)
