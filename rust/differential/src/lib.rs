@@ -2,9 +2,6 @@
 //!
 //! A document is made from a seed, so that a failure can be made again; it is printed in hexadecimal.
 
-// links the static library with the proved code
-use czubrotek as _;
-
 pub mod binary_json;
 pub mod exports;
 pub mod fractured_json;
