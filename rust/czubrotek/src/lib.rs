@@ -24,6 +24,7 @@
 //! ```
 
 pub mod binary_json;
+mod container;
 pub mod fractured_json;
 mod refusal;
 
