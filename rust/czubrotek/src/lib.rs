@@ -32,7 +32,7 @@ pub use refusal::Refusal;
 
 use std::ops::Range;
 
-/// Lends so many words to a call, and gives what it wrote over them, or its refusal.
+/// Lends a call the words that it needs, and gives what it wrote over them, or its refusal.
 fn ask<const WORDS: usize>(call: impl FnOnce(&mut [u64]) -> u32) -> Result<[u64; WORDS], Refusal> {
     let mut out = [0; WORDS];
     match call(&mut out) {
