@@ -35,7 +35,8 @@ mod value;
 
 pub use value::{Array, Elements, Members, Object, Value};
 
-use crate::{Refusal, ffi, range};
+use crate::{Refusal, ask, range};
+use czubrotek_sys as sys;
 use std::ops::Range;
 
 /// The offset of a word of the tree: a Meta or an Entry.
@@ -121,7 +122,7 @@ pub struct Document<'a> {
 impl<'a> Document<'a> {
     /// Checks the bytes: exactly those that keep every rule are accepted. Refusals 1 to 13.
     pub fn check(bytes: &'a [u8]) -> Result<Document<'a>, Refusal> {
-        ffi::bj_check(bytes)?;
+        ask::<1>(|out| sys::bj_check(bytes, out))?;
         Ok(Document { bytes })
     }
 
@@ -153,7 +154,7 @@ impl<'a> Document<'a> {
 
     /// Kind and size of the container at a Meta.
     pub fn kind_and_size(&self, meta: TreeOffset) -> Result<(Kind, usize), Refusal> {
-        let [kind, size, ..] = ffi::bj_kind_and_size(self.bytes, meta.0)?;
+        let [kind, size] = ask(|out| sys::bj_kind_and_size(self.bytes, meta.0, out))?;
         let kind = match kind {
             0 => Kind::Array,
             1 => Kind::Object,
@@ -165,13 +166,13 @@ impl<'a> Document<'a> {
 
     /// The Entry of element `i` of the array, or top-level scalar, at a Meta.
     pub fn element(&self, meta: TreeOffset, i: usize) -> Result<TreeOffset, Refusal> {
-        let [entry, ..] = ffi::bj_element(self.bytes, meta.0, i)?;
+        let [entry] = ask(|out| sys::bj_element(self.bytes, meta.0, i as u64, out))?;
         Ok(TreeOffset(entry))
     }
 
     /// Slot and Entry of member `j` of the object at a Meta.
     pub fn member(&self, meta: TreeOffset, j: usize) -> Result<Member, Refusal> {
-        let [slot, entry, ..] = ffi::bj_member(self.bytes, meta.0, j)?;
+        let [slot, entry] = ask(|out| sys::bj_member(self.bytes, meta.0, j as u64, out))?;
         Ok(Member {
             slot: SlotOffset(slot),
             entry: TreeOffset(entry),
@@ -180,7 +181,7 @@ impl<'a> Document<'a> {
 
     /// The type of an Entry.
     pub fn entry_type(&self, entry: TreeOffset) -> Result<Type, Refusal> {
-        let [number, ..] = ffi::bj_entry_type(self.bytes, entry.0)?;
+        let [number] = ask(|out| sys::bj_entry_type(self.bytes, entry.0, out))?;
         Ok(match number {
             0 => Type::False,
             1 => Type::True,
@@ -194,7 +195,7 @@ impl<'a> Document<'a> {
 
     /// The Meta of the container that an Entry names.
     pub fn container(&self, entry: TreeOffset) -> Result<TreeOffset, Refusal> {
-        let [meta, ..] = ffi::bj_container(self.bytes, entry.0)?;
+        let [meta] = ask(|out| sys::bj_container(self.bytes, entry.0, out))?;
         Ok(TreeOffset(meta))
     }
 
@@ -205,7 +206,7 @@ impl<'a> Document<'a> {
 
     /// Where the text of the string that an Entry names stands in the document.
     pub fn string_range(&self, entry: TreeOffset) -> Result<Range<usize>, Refusal> {
-        let [place, len, ..] = ffi::bj_string(self.bytes, entry.0)?;
+        let [place, len] = ask(|out| sys::bj_string(self.bytes, entry.0, out))?;
         Ok(range(place, len))
     }
 
@@ -223,7 +224,7 @@ impl<'a> Document<'a> {
     /// # Ok::<(), czubrotek::Refusal>(())
     /// ```
     pub fn number(&self, entry: TreeOffset) -> Result<Number, Refusal> {
-        let [bits, ..] = ffi::bj_number(self.bytes, entry.0)?;
+        let [bits] = ask(|out| sys::bj_number(self.bytes, entry.0, out))?;
         Ok(Number { bits })
     }
 
@@ -234,14 +235,14 @@ impl<'a> Document<'a> {
 
     /// Where the text that a slot names stands in the document.
     pub fn slot_range(&self, slot: SlotOffset) -> Result<Range<usize>, Refusal> {
-        let [place, len, ..] = ffi::bj_slot(self.bytes, slot.0)?;
+        let [place, len] = ask(|out| sys::bj_slot(self.bytes, slot.0, out))?;
         Ok(range(place, len))
     }
 
     /// Looks a key up in the object at a Meta, by halving the strings and then the object's KeyEntries.
     pub fn quick_lookup(&self, meta: TreeOffset, key: &[u8]) -> Result<Lookup, Refusal> {
         let [found, string_comparisons, key_comparisons, entry] =
-            ffi::bj_quick_lookup(self.bytes, meta.0, key)?;
+            ask(|out| sys::bj_quick_lookup(self.bytes, meta.0, key, out))?;
         Ok(Lookup {
             entry: (found == 1).then_some(TreeOffset(entry)),
             string_comparisons,
@@ -252,7 +253,7 @@ impl<'a> Document<'a> {
     /// Looks a key up in the object at a Meta, by comparing from member 0 on. In a checked document it finds what the
     /// quick lookup finds.
     pub fn plain_scan(&self, meta: TreeOffset, key: &[u8]) -> Result<Option<TreeOffset>, Refusal> {
-        let [found, entry, ..] = ffi::bj_plain_scan(self.bytes, meta.0, key)?;
+        let [found, entry] = ask(|out| sys::bj_plain_scan(self.bytes, meta.0, key, out))?;
         Ok((found == 1).then_some(TreeOffset(entry)))
     }
 

@@ -48,7 +48,8 @@ mod value;
 pub use key::Key;
 pub use value::{Array, Elements, Members, Object, Value};
 
-use crate::{Refusal, ffi, range};
+use crate::{Refusal, ask, range};
+use czubrotek_sys as sys;
 use std::error::Error;
 use std::fmt;
 use std::ops::{Deref, DerefMut, Range};
@@ -214,17 +215,18 @@ impl From<Refused> for Refusal {
 pub struct Document<'a> {
     bytes: &'a [u8],
     words: &'a [u32],
-    count: usize,
+    count: u64,
 }
 
 impl<'a> Document<'a> {
     /// Checks the bytes: exactly those that keep every rule, and for whose keys the table has room, are accepted. The
     /// table's room is half its words rounded down, at most [`MOST_KEYS`].
     pub fn check(bytes: &'a [u8], words: &'a mut [u32]) -> Result<Document<'a>, Refused> {
-        match ffi::fj_check(bytes, words) {
-            Ok(count) => Ok(Document::unchecked(bytes, words, count as usize)),
-            Err((refusal, count)) => Err(Refused {
-                refusal,
+        let mut out = [0; 2];
+        match (sys::fj_check(bytes, words, &mut out), out) {
+            (0, [count, _]) => Ok(Document::unchecked(bytes, words, count as usize)),
+            (number, [place, count]) => Err(Refused {
+                refusal: Refusal { number, place },
                 count: count as usize,
             }),
         }
@@ -247,7 +249,7 @@ impl<'a> Document<'a> {
         Document {
             bytes,
             words,
-            count,
+            count: count as u64,
         }
     }
 
@@ -263,7 +265,7 @@ impl<'a> Document<'a> {
 
     /// The number of pairs in the key table.
     pub fn count(&self) -> usize {
-        self.count
+        self.count as usize
     }
 
     /// The root value, which is always at 3.
@@ -273,13 +275,13 @@ impl<'a> Document<'a> {
 
     /// Where a value ends: the offset behind its last byte.
     pub fn end(&self, at: ValueOffset) -> Result<u64, Refusal> {
-        let [end, ..] = ffi::fj_end(self.bytes, self.words, self.count, at.0)?;
+        let [end] = ask(|out| sys::fj_end(self.bytes, self.words, self.count, at.0, out))?;
         Ok(end)
     }
 
     /// The kind of a value.
     pub fn kind(&self, at: ValueOffset) -> Result<Kind, Refusal> {
-        let [kind, len, ..] = ffi::fj_kind(self.bytes, at.0)?;
+        let [kind, len] = ask(|out| sys::fj_kind(self.bytes, at.0, out))?;
         Ok(match kind {
             0 => Kind::Null,
             1 => Kind::False,
@@ -310,7 +312,7 @@ impl<'a> Document<'a> {
 
     /// A number as it is stored.
     pub fn number_bits(&self, at: ValueOffset) -> Result<NumberBits, Refusal> {
-        let [type_byte, bits, ..] = ffi::fj_number(self.bytes, at.0)?;
+        let [type_byte, bits] = ask(|out| sys::fj_number(self.bytes, at.0, out))?;
         Ok(NumberBits {
             type_byte: type_byte as u8,
             bits,
@@ -329,19 +331,21 @@ impl<'a> Document<'a> {
 
     /// Where the text of a string stands in the document.
     pub fn string_range(&self, at: ValueOffset) -> Result<Range<usize>, Refusal> {
-        let [place, len, ..] = ffi::fj_string(self.bytes, at.0)?;
+        let [place, len] = ask(|out| sys::fj_string(self.bytes, at.0, out))?;
         Ok(range(place, len))
     }
 
     /// Element `i` of an array. It walks the elements before it; [`Array::iter`] walks each once.
     pub fn element(&self, at: ValueOffset, i: usize) -> Result<ValueOffset, Refusal> {
-        let [value, ..] = ffi::fj_element(self.bytes, self.words, self.count, at.0, i)?;
+        let [value] =
+            ask(|out| sys::fj_element(self.bytes, self.words, self.count, at.0, i as u64, out))?;
         Ok(ValueOffset(value))
     }
 
     /// Member `j` of an object. It walks the members before it; [`Object::iter`] walks each once.
     pub fn member(&self, at: ValueOffset, j: usize) -> Result<Member, Refusal> {
-        let [key, value, ..] = ffi::fj_member(self.bytes, self.words, self.count, at.0, j)?;
+        let [key, value] =
+            ask(|out| sys::fj_member(self.bytes, self.words, self.count, at.0, j as u64, out))?;
         Ok(Member {
             key: KeyOffset(key),
             value: ValueOffset(value),
@@ -354,8 +358,8 @@ impl<'a> Document<'a> {
         at: ValueOffset,
         key: &[u8],
     ) -> Result<Option<ValueOffset>, Refusal> {
-        let [found, value, ..] =
-            ffi::fj_first_member(self.bytes, self.words, self.count, at.0, key)?;
+        let [found, value] =
+            ask(|out| sys::fj_first_member(self.bytes, self.words, self.count, at.0, key, out))?;
         Ok((found == 1).then_some(ValueOffset(value)))
     }
 }

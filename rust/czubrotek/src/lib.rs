@@ -24,13 +24,25 @@
 //! ```
 
 pub mod binary_json;
-mod ffi;
+mod container;
 pub mod fractured_json;
 mod refusal;
 
 pub use refusal::Refusal;
 
 use std::ops::Range;
+
+/// Lends a call the words that it needs, and gives what it wrote over them, or its refusal.
+fn ask<const WORDS: usize>(call: impl FnOnce(&mut [u64]) -> u32) -> Result<[u64; WORDS], Refusal> {
+    let mut out = [0; WORDS];
+    match call(&mut out) {
+        0 => Ok(out),
+        number => Err(Refusal {
+            number,
+            place: out[0],
+        }),
+    }
+}
 
 /// A text's place and length as a range; one that would overflow lies outside every document.
 fn range(place: u64, len: u64) -> Range<usize> {

@@ -3,7 +3,7 @@
 use czubrotek::fractured_json::{Document, KeyOffset};
 
 /// Asks both of the key at 4 of an object of one; answers whether it could be read.
-fn same(key: &[u8], words: &[u32], count: usize) -> bool {
+fn same(key: &[u8], (words, count): (&[u32], usize)) -> bool {
     let bytes = [b"\x46\x4A\x01\x6F", key].concat();
     let document = Document::unchecked(&bytes, words, count);
     let member = document.member(document.root(), 0);
@@ -32,16 +32,18 @@ const TABLES: [(&[u32], usize); 8] = [
     (&[9; 400], 200),
 ];
 
+/// Asks both with every table; answers with how many of them the key could be read.
+fn good_tables(key: &[u8]) -> usize {
+    TABLES.into_iter().filter(|&table| same(key, table)).count()
+}
+
 #[test]
 fn every_key_byte_and_length() {
     let mut good = 0;
     for byte in 0..=255 {
         for len in 0..=100 {
             let key = [&[byte][..], &vec![1; len]].concat();
-            good += TABLES
-                .iter()
-                .filter(|(words, count)| same(&key, words, *count))
-                .count();
+            good += good_tables(&key);
         }
     }
     assert!(good > 10_000, "{good}");
@@ -60,10 +62,7 @@ fn every_shape_of_index() {
             for len in [1, 2, 3, 4, 5, 130, 131, 132, 133, 200] {
                 let mut key = vec![form, a, b, c];
                 key.resize(len, 7);
-                good += TABLES
-                    .iter()
-                    .filter(|(words, count)| same(&key, words, *count))
-                    .count();
+                good += good_tables(&key);
             }
         }
     }

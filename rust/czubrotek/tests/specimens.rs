@@ -18,36 +18,41 @@ fn fractured(bytes: &[u8]) -> Option<(u32, u64)> {
     Some((refused.refusal.number, refused.refusal.place))
 }
 
+type Json = Result<String, Refusal>;
+
+fn text(text: &[u8]) -> String {
+    format!("{:?}", String::from_utf8_lossy(text))
+}
+
+fn array<V>(items: impl Iterator<Item = Result<V, Refusal>>, tree: fn(V) -> Json) -> Json {
+    let items: Result<Vec<_>, _> = items.map(|item| tree(item?)).collect();
+    Ok(format!("[{}]", items?.join(",")))
+}
+
+fn object<'a, V>(
+    members: impl Iterator<Item = Result<(&'a [u8], V), Refusal>>,
+    tree: fn(V) -> Json,
+) -> Json {
+    let member = |(key, value)| Ok(format!("{}:{}", text(key), tree(value)?));
+    let members: Result<Vec<_>, _> = members.map(|m| m.and_then(member)).collect();
+    Ok(format!("{{{}}}", members?.join(",")))
+}
+
 /// A BinaryJson tree as JSON.
-fn binary_tree(value: binary_json::Value) -> Result<String, Refusal> {
+fn binary_tree(value: binary_json::Value) -> Json {
     use binary_json::Value;
     Ok(match value {
         Value::Null => "null".to_string(),
         Value::Bool(b) => b.to_string(),
         Value::Number(n) => format!("{:?}", n.to_f64()),
-        Value::String(text) => format!("{:?}", String::from_utf8_lossy(text)),
-        Value::Array(array) => {
-            let elements: Result<Vec<_>, _> = array.iter().map(|e| binary_tree(e?)).collect();
-            format!("[{}]", elements?.join(","))
-        }
-        Value::Object(object) => {
-            let members: Result<Vec<_>, _> =
-                object.iter().map(|m| m.and_then(binary_member)).collect();
-            format!("{{{}}}", members?.join(","))
-        }
+        Value::String(string) => text(string),
+        Value::Array(items) => array(items.iter(), binary_tree)?,
+        Value::Object(members) => object(members.iter(), binary_tree)?,
     })
 }
 
-fn binary_member((key, value): (&[u8], binary_json::Value)) -> Result<String, Refusal> {
-    Ok(format!(
-        "{:?}:{}",
-        String::from_utf8_lossy(key),
-        binary_tree(value)?
-    ))
-}
-
 /// A Fractured JSON tree as JSON.
-fn fractured_tree(value: fractured_json::Value) -> Result<String, Refusal> {
+fn fractured_tree(value: fractured_json::Value) -> Json {
     use fractured_json::{Number, Value};
     Ok(match value {
         Value::Null => "null".to_string(),
@@ -56,27 +61,10 @@ fn fractured_tree(value: fractured_json::Value) -> Result<String, Refusal> {
         Value::Number(Number::UInt(n)) => n.to_string(),
         Value::Number(Number::Float32(x)) => format!("{x:?}"),
         Value::Number(Number::Float64(x)) => format!("{x:?}"),
-        Value::String(text) => format!("{:?}", String::from_utf8_lossy(text)),
-        Value::Array(array) => {
-            let elements: Result<Vec<_>, _> = array.iter().map(|e| fractured_tree(e?)).collect();
-            format!("[{}]", elements?.join(","))
-        }
-        Value::Object(object) => {
-            let members: Result<Vec<_>, _> = object
-                .iter()
-                .map(|m| m.and_then(fractured_member))
-                .collect();
-            format!("{{{}}}", members?.join(","))
-        }
+        Value::String(string) => text(string),
+        Value::Array(items) => array(items.iter(), fractured_tree)?,
+        Value::Object(members) => object(members.iter(), fractured_tree)?,
     })
-}
-
-fn fractured_member((key, value): (&[u8], fractured_json::Value)) -> Result<String, Refusal> {
-    Ok(format!(
-        "{:?}:{}",
-        String::from_utf8_lossy(key),
-        fractured_tree(value)?
-    ))
 }
 
 fn binary_means(bytes: &[u8]) -> String {

@@ -1,111 +1,19 @@
 //! The proved calls, with answers of the plain reader's types.
 
+use czubrotek_sys as sys;
 use plain::{Answer, Refusal};
-
-unsafe extern "C" {
-    fn bj_check(doc: *const u8, len: usize, out: *mut u64, words: usize) -> u32;
-    fn bj_kind_and_size(doc: *const u8, len: usize, tree: u64, out: *mut u64, words: usize) -> u32;
-    fn bj_element(
-        doc: *const u8,
-        len: usize,
-        tree: u64,
-        i: u64,
-        out: *mut u64,
-        words: usize,
-    ) -> u32;
-    fn bj_member(doc: *const u8, len: usize, tree: u64, j: u64, out: *mut u64, words: usize)
-    -> u32;
-    fn bj_entry_type(doc: *const u8, len: usize, tree: u64, out: *mut u64, words: usize) -> u32;
-    fn bj_container(doc: *const u8, len: usize, tree: u64, out: *mut u64, words: usize) -> u32;
-    fn bj_string(doc: *const u8, len: usize, tree: u64, out: *mut u64, words: usize) -> u32;
-    fn bj_number(doc: *const u8, len: usize, tree: u64, out: *mut u64, words: usize) -> u32;
-    fn bj_slot(doc: *const u8, len: usize, slot: u64, out: *mut u64, words: usize) -> u32;
-    fn bj_quick_lookup(
-        doc: *const u8,
-        len: usize,
-        tree: u64,
-        key: *const u8,
-        key_len: usize,
-        out: *mut u64,
-        words: usize,
-    ) -> u32;
-    fn bj_plain_scan(
-        doc: *const u8,
-        len: usize,
-        tree: u64,
-        key: *const u8,
-        key_len: usize,
-        out: *mut u64,
-        words: usize,
-    ) -> u32;
-    fn fj_check(
-        doc: *const u8,
-        len: usize,
-        keys: *mut u32,
-        key_words: usize,
-        out: *mut u64,
-        words: usize,
-    ) -> u32;
-    fn fj_end(
-        doc: *const u8,
-        len: usize,
-        keys: *const u32,
-        key_words: usize,
-        count: u64,
-        at: u64,
-        out: *mut u64,
-        words: usize,
-    ) -> u32;
-    fn fj_kind(doc: *const u8, len: usize, at: u64, out: *mut u64, words: usize) -> u32;
-    fn fj_number(doc: *const u8, len: usize, at: u64, out: *mut u64, words: usize) -> u32;
-    fn fj_string(doc: *const u8, len: usize, at: u64, out: *mut u64, words: usize) -> u32;
-    fn fj_element(
-        doc: *const u8,
-        len: usize,
-        keys: *const u32,
-        key_words: usize,
-        count: u64,
-        at: u64,
-        i: u64,
-        out: *mut u64,
-        words: usize,
-    ) -> u32;
-    fn fj_member(
-        doc: *const u8,
-        len: usize,
-        keys: *const u32,
-        key_words: usize,
-        count: u64,
-        at: u64,
-        j: u64,
-        out: *mut u64,
-        words: usize,
-    ) -> u32;
-    fn fj_first_member(
-        doc: *const u8,
-        len: usize,
-        keys: *const u32,
-        key_words: usize,
-        count: u64,
-        at: u64,
-        key: *const u8,
-        key_len: usize,
-        out: *mut u64,
-        words: usize,
-    ) -> u32;
-}
 
 /// What a lent word holds before a call, so that a word written without need is seen.
 const BEFORE: u64 = 0xDEAD_BEEF_0BAD_F00D;
 
-/// Asks with W lent words. Words that the answer does not name must hold what they held; `used` says how many it names.
+/// Asks with W lent words. `answered` gives the value and how many words it takes; the others must hold what they held.
 fn ask<const W: usize, T>(
-    call: impl Fn(*mut u64, usize) -> u32,
+    call: impl Fn(&mut [u64]) -> u32,
     answered: impl Fn(&[u64; W]) -> (T, usize),
 ) -> Answer<T> {
     let mut words = [BEFORE; W];
-    let number = call(words.as_mut_ptr(), W);
-    assert_ne!(number, 255, "{W} words were too few");
+    let number = call(&mut words);
+    assert_ne!(number, sys::TOO_FEW, "{W} words were too few");
     let (answer, used) = match number {
         0 => {
             let (value, used) = answered(&words);
@@ -125,117 +33,80 @@ fn ask<const W: usize, T>(
     );
     // one word fewer is too few, and nothing is written
     let mut few = [BEFORE; W];
-    assert_eq!(call(few.as_mut_ptr(), W - 1), 255);
+    assert_eq!(call(&mut few[..W - 1]), sys::TOO_FEW);
     assert_eq!(few, [BEFORE; W]);
     answer
+}
+
+/// One word.
+fn one(&[word]: &[u64; 1]) -> (u64, usize) {
+    (word, 1)
+}
+
+/// Two words.
+fn two(&[first, second]: &[u64; 2]) -> ((u64, u64), usize) {
+    ((first, second), 2)
+}
+
+/// 1 and a word, or 0 alone.
+fn found(&[found, word]: &[u64; 2]) -> (Option<u64>, usize) {
+    match found {
+        1 => (Some(word), 2),
+        _ => (None, 1),
+    }
 }
 
 pub mod binary_json {
     use super::*;
 
-    // In each call the pointers and lengths are those of live slices and of the words that `ask` lends.
-
     pub fn check(doc: &[u8]) -> Answer<()> {
-        ask::<1, _>(
-            |out, n| unsafe { bj_check(doc.as_ptr(), doc.len(), out, n) },
-            |_| ((), 0),
-        )
+        ask(|out| sys::bj_check(doc, out), |_: &[u64; 1]| ((), 0))
     }
 
     pub fn kind_and_size(doc: &[u8], tree: u64) -> Answer<(u64, u64)> {
-        ask::<2, _>(
-            |out, n| unsafe { bj_kind_and_size(doc.as_ptr(), doc.len(), tree, out, n) },
-            |w| ((w[0], w[1]), 2),
-        )
+        ask(|out| sys::bj_kind_and_size(doc, tree, out), two)
     }
 
     pub fn element(doc: &[u8], tree: u64, i: u64) -> Answer<u64> {
-        ask::<1, _>(
-            |out, n| unsafe { bj_element(doc.as_ptr(), doc.len(), tree, i, out, n) },
-            |w| (w[0], 1),
-        )
+        ask(|out| sys::bj_element(doc, tree, i, out), one)
     }
 
     pub fn member(doc: &[u8], tree: u64, j: u64) -> Answer<(u64, u64)> {
-        ask::<2, _>(
-            |out, n| unsafe { bj_member(doc.as_ptr(), doc.len(), tree, j, out, n) },
-            |w| ((w[0], w[1]), 2),
-        )
+        ask(|out| sys::bj_member(doc, tree, j, out), two)
     }
 
     pub fn entry_type(doc: &[u8], tree: u64) -> Answer<u64> {
-        ask::<1, _>(
-            |out, n| unsafe { bj_entry_type(doc.as_ptr(), doc.len(), tree, out, n) },
-            |w| (w[0], 1),
-        )
+        ask(|out| sys::bj_entry_type(doc, tree, out), one)
     }
 
     pub fn container(doc: &[u8], tree: u64) -> Answer<u64> {
-        ask::<1, _>(
-            |out, n| unsafe { bj_container(doc.as_ptr(), doc.len(), tree, out, n) },
-            |w| (w[0], 1),
-        )
+        ask(|out| sys::bj_container(doc, tree, out), one)
     }
 
     pub fn string(doc: &[u8], tree: u64) -> Answer<(u64, u64)> {
-        ask::<2, _>(
-            |out, n| unsafe { bj_string(doc.as_ptr(), doc.len(), tree, out, n) },
-            |w| ((w[0], w[1]), 2),
-        )
+        ask(|out| sys::bj_string(doc, tree, out), two)
     }
 
     pub fn number(doc: &[u8], tree: u64) -> Answer<u64> {
-        ask::<1, _>(
-            |out, n| unsafe { bj_number(doc.as_ptr(), doc.len(), tree, out, n) },
-            |w| (w[0], 1),
-        )
+        ask(|out| sys::bj_number(doc, tree, out), one)
     }
 
     pub fn slot(doc: &[u8], slot: u64) -> Answer<(u64, u64)> {
-        ask::<2, _>(
-            |out, n| unsafe { bj_slot(doc.as_ptr(), doc.len(), slot, out, n) },
-            |w| ((w[0], w[1]), 2),
-        )
+        ask(|out| sys::bj_slot(doc, slot, out), two)
     }
 
     pub fn quick_lookup(doc: &[u8], tree: u64, key: &[u8]) -> Answer<(Option<u64>, u64, u64)> {
-        ask::<4, _>(
-            |out, n| unsafe {
-                bj_quick_lookup(
-                    doc.as_ptr(),
-                    doc.len(),
-                    tree,
-                    key.as_ptr(),
-                    key.len(),
-                    out,
-                    n,
-                )
-            },
-            |w| match w[0] {
-                1 => ((Some(w[3]), w[1], w[2]), 4),
-                _ => ((None, w[1], w[2]), 3),
+        ask(
+            |out| sys::bj_quick_lookup(doc, tree, key, out),
+            |&[found, strings, keys, entry]| match found {
+                1 => ((Some(entry), strings, keys), 4),
+                _ => ((None, strings, keys), 3),
             },
         )
     }
 
     pub fn plain_scan(doc: &[u8], tree: u64, key: &[u8]) -> Answer<Option<u64>> {
-        ask::<2, _>(
-            |out, n| unsafe {
-                bj_plain_scan(
-                    doc.as_ptr(),
-                    doc.len(),
-                    tree,
-                    key.as_ptr(),
-                    key.len(),
-                    out,
-                    n,
-                )
-            },
-            |w| match w[0] {
-                1 => (Some(w[1]), 2),
-                _ => (None, 1),
-            },
-        )
+        ask(|out| sys::bj_plain_scan(doc, tree, key, out), found)
     }
 }
 
@@ -248,27 +119,9 @@ pub mod fractured_json {
         let mut out = [BEFORE; 2];
         // too few words: nothing is written anywhere
         let before = keys.to_vec();
-        let few = unsafe {
-            fj_check(
-                doc.as_ptr(),
-                doc.len(),
-                keys.as_mut_ptr(),
-                keys.len(),
-                out.as_mut_ptr(),
-                1,
-            )
-        };
-        assert_eq!((few, out, &*keys), (255, [BEFORE; 2], &*before));
-        let number = unsafe {
-            fj_check(
-                doc.as_ptr(),
-                doc.len(),
-                keys.as_mut_ptr(),
-                keys.len(),
-                out.as_mut_ptr(),
-                2,
-            )
-        };
+        let few = sys::fj_check(doc, keys, &mut out[..1]);
+        assert_eq!((few, out, &*keys), (sys::TOO_FEW, [BEFORE; 2], &*before));
+        let number = sys::fj_check(doc, keys, &mut out);
         if number == 0 {
             assert_eq!(out[1], BEFORE);
             return Checked {
@@ -286,83 +139,36 @@ pub mod fractured_json {
     }
 
     pub fn end(doc: &[u8], keys: &[u32], count: u64, at: u64) -> Answer<u64> {
-        ask::<1, _>(
-            |out, n| unsafe {
-                fj_end(
-                    doc.as_ptr(),
-                    doc.len(),
-                    keys.as_ptr(),
-                    keys.len(),
-                    count,
-                    at,
-                    out,
-                    n,
-                )
-            },
-            |w| (w[0], 1),
-        )
+        ask(|out| sys::fj_end(doc, keys, count, at, out), one)
     }
 
     pub fn kind(doc: &[u8], at: u64) -> Answer<(u64, Option<u64>)> {
-        ask::<2, _>(
-            |out, n| unsafe { fj_kind(doc.as_ptr(), doc.len(), at, out, n) },
-            |w| match w[0] {
-                0..=3 => ((w[0], None), 1),
-                _ => ((w[0], Some(w[1])), 2),
+        ask(
+            |out| sys::fj_kind(doc, at, out),
+            |&[kind, len]| match kind {
+                0..=3 => ((kind, None), 1),
+                _ => ((kind, Some(len)), 2),
             },
         )
     }
 
     pub fn number(doc: &[u8], at: u64) -> Answer<(u8, u64)> {
-        ask::<2, _>(
-            |out, n| unsafe { fj_number(doc.as_ptr(), doc.len(), at, out, n) },
-            |w| ((w[0] as u8, w[1]), 2),
+        ask(
+            |out| sys::fj_number(doc, at, out),
+            |&[type_byte, bits]| ((type_byte as u8, bits), 2),
         )
     }
 
     pub fn string(doc: &[u8], at: u64) -> Answer<(u64, u64)> {
-        ask::<2, _>(
-            |out, n| unsafe { fj_string(doc.as_ptr(), doc.len(), at, out, n) },
-            |w| ((w[0], w[1]), 2),
-        )
+        ask(|out| sys::fj_string(doc, at, out), two)
     }
 
     pub fn element(doc: &[u8], keys: &[u32], count: u64, at: u64, i: u64) -> Answer<u64> {
-        ask::<1, _>(
-            |out, n| unsafe {
-                fj_element(
-                    doc.as_ptr(),
-                    doc.len(),
-                    keys.as_ptr(),
-                    keys.len(),
-                    count,
-                    at,
-                    i,
-                    out,
-                    n,
-                )
-            },
-            |w| (w[0], 1),
-        )
+        ask(|out| sys::fj_element(doc, keys, count, at, i, out), one)
     }
 
     pub fn member(doc: &[u8], keys: &[u32], count: u64, at: u64, j: u64) -> Answer<(u64, u64)> {
-        ask::<2, _>(
-            |out, n| unsafe {
-                fj_member(
-                    doc.as_ptr(),
-                    doc.len(),
-                    keys.as_ptr(),
-                    keys.len(),
-                    count,
-                    at,
-                    j,
-                    out,
-                    n,
-                )
-            },
-            |w| ((w[0], w[1]), 2),
-        )
+        ask(|out| sys::fj_member(doc, keys, count, at, j, out), two)
     }
 
     pub fn first_member(
@@ -372,81 +178,34 @@ pub mod fractured_json {
         at: u64,
         key: &[u8],
     ) -> Answer<Option<u64>> {
-        ask::<2, _>(
-            |out, n| unsafe {
-                fj_first_member(
-                    doc.as_ptr(),
-                    doc.len(),
-                    keys.as_ptr(),
-                    keys.len(),
-                    count,
-                    at,
-                    key.as_ptr(),
-                    key.len(),
-                    out,
-                    n,
-                )
-            },
-            |w| match w[0] {
-                1 => (Some(w[1]), 2),
-                _ => (None, 1),
-            },
+        ask(
+            |out| sys::fj_first_member(doc, keys, count, at, key, out),
+            found,
         )
     }
 }
 
 /// The calls that are timed: no test stands around them.
 pub mod timed {
-    use super::*;
+    use super::sys;
 
     pub fn binary_json_check(doc: &[u8]) -> u32 {
-        let mut out = [0; 1];
-        unsafe { bj_check(doc.as_ptr(), doc.len(), out.as_mut_ptr(), 1) }
+        sys::bj_check(doc, &mut [0; 1])
     }
 
     pub fn fractured_json_check(doc: &[u8], keys: &mut [u32]) -> u32 {
-        let mut out = [0; 2];
-        unsafe {
-            fj_check(
-                doc.as_ptr(),
-                doc.len(),
-                keys.as_mut_ptr(),
-                keys.len(),
-                out.as_mut_ptr(),
-                2,
-            )
-        }
+        sys::fj_check(doc, keys, &mut [0; 2])
     }
 
     pub fn quick_lookup(doc: &[u8], tree: u64, key: &[u8]) -> [u64; 4] {
         let mut out = [0; 4];
-        unsafe {
-            bj_quick_lookup(
-                doc.as_ptr(),
-                doc.len(),
-                tree,
-                key.as_ptr(),
-                key.len(),
-                out.as_mut_ptr(),
-                4,
-            )
-        };
+        sys::bj_quick_lookup(doc, tree, key, &mut out);
         out
     }
 
     pub fn plain_scan(doc: &[u8], tree: u64, key: &[u8]) -> [u64; 2] {
         let mut out = [0; 2];
-        unsafe {
-            bj_plain_scan(
-                doc.as_ptr(),
-                doc.len(),
-                tree,
-                key.as_ptr(),
-                key.len(),
-                out.as_mut_ptr(),
-                2,
-            )
-        };
+        sys::bj_plain_scan(doc, tree, key, &mut out);
         out
     }
 }

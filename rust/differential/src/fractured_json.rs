@@ -1,6 +1,9 @@
 //! Fractured JSON documents that keep the rules, but for what is spoilt by chance.
 
 use crate::random::Random;
+use documents::fractured_json::{
+    ARRAY, BACK_REFERENCE, Form, GLOBAL_INDEX, IMMEDIATE, OBJECT, STRING, least_v_uint16,
+};
 
 struct Writer<'a> {
     random: &'a mut Random,
@@ -10,66 +13,39 @@ struct Writer<'a> {
 }
 
 impl Writer<'_> {
-    /// A length: in the type byte if it is a tiny one, or spelled behind it; `spelled` is the type byte with one byte of length.
-    fn length(&mut self, n: usize, first: u8, tiny: usize, spelled: u8) {
-        if n < tiny && !self.random.once_in(4) {
-            self.doc.push(first + n as u8);
-            return;
-        }
-        let wide = self.random.below(3);
-        if wide == 0 && n < 256 {
-            self.doc.extend([spelled, n as u8]);
-        } else if wide < 2 && n < 65_536 {
-            self.doc.push(spelled + 1);
-            self.doc.extend((n as u16).to_le_bytes());
-        } else {
-            self.doc.push(spelled + 2);
-            self.doc.extend((n as u32).to_le_bytes());
-        }
+    /// A length: in the type byte if it is a tiny one, or spelled behind it.
+    fn length(&mut self, form: &Form, n: usize) {
+        let spelled = n >= form.tiny || self.random.once_in(4);
+        let width = spelled.then(|| self.random.below(3));
+        form.put_length(&mut self.doc, n, width);
     }
 
-    /// A v_uint16, by chance in a longer spelling than it needs.
-    fn v_uint16(&mut self, n: usize) {
-        let least = match n {
-            0..=0x7F => 1,
-            0x80..=0x3FFF => 2,
-            _ => 3,
-        };
-        let bytes = least + self.random.below(4 - least);
-        for i in 0..bytes {
-            let more = if i + 1 < bytes { 0x80 } else { 0 };
-            self.doc.push(((n >> (7 * i)) & 0x7F) as u8 | more);
-        }
-    }
-
-    /// A key byte with its number in it or behind it.
-    fn key_number(&mut self, n: usize, spelled: u8, first: u8) {
-        if n < 84 && !self.random.once_in(4) {
-            self.doc.push(first + n as u8);
-        } else {
-            self.doc.push(spelled);
-            self.v_uint16(n);
-        }
+    /// A key byte with its number in it, or behind it, by chance in a longer spelling than it needs.
+    fn key_number(&mut self, form: &Form, n: usize) {
+        let spelled = n >= form.tiny || self.random.once_in(4);
+        let least = least_v_uint16(n);
+        let bytes = spelled.then(|| least + self.random.below(4 - least));
+        form.put_key_number(&mut self.doc, n, bytes);
     }
 
     fn key(&mut self) {
         if self.random.once_in(60) {
             let n = self.random.below(90);
-            return self.key_number(n, 0x02, 0xAB);
+            return self.key_number(&GLOBAL_INDEX, n);
         }
         if !self.keys.is_empty() && self.random.once_in(2) {
             // once in 20 times the index may be one too many
             let beyond = self.random.below(20) / 19;
             let n = self.random.below(self.keys.len() + beyond);
-            return self.key_number(n, 0x01, 0x57);
+            return self.key_number(&BACK_REFERENCE, n);
         }
         let most = if self.random.once_in(30) { 90 } else { 3 };
         let text = self.random.text(most);
         if self.keys.contains(&text) && !self.random.once_in(40) {
             let n = self.keys.iter().position(|k| *k == text).unwrap_or(0);
-            return self.key_number(n, 0x01, 0x57);
+            return self.key_number(&BACK_REFERENCE, n);
         }
-        self.key_number(text.len(), 0x00, 0x03);
+        self.key_number(&IMMEDIATE, text.len());
         self.doc.extend(&text);
         self.keys.push(text);
     }
@@ -108,7 +84,7 @@ impl Writer<'_> {
             _ => {
                 let most = if self.random.once_in(20) { 120 } else { 5 };
                 let text = self.random.text(most);
-                self.length(text.len(), 0x16, 88, 0x0D);
+                self.length(&STRING, text.len());
                 self.doc.extend(text);
             }
         }
@@ -125,12 +101,12 @@ impl Writer<'_> {
         };
         let levels = if n > 20 { 0 } else { levels - 1 };
         if self.random.once_in(2) {
-            self.length(n, 0x9E, 32, 0x13);
+            self.length(&ARRAY, n);
             for _ in 0..n {
                 self.value(levels);
             }
         } else {
-            self.length(n, 0x6E, 48, 0x10);
+            self.length(&OBJECT, n);
             for _ in 0..n {
                 self.key();
                 self.value(levels);
@@ -142,9 +118,9 @@ impl Writer<'_> {
     fn chain(&mut self, levels: usize) {
         for _ in 0..levels {
             if self.random.once_in(2) {
-                self.length(1, 0x9E, 32, 0x13);
+                self.length(&ARRAY, 1);
             } else {
-                self.length(1, 0x6E, 48, 0x10);
+                self.length(&OBJECT, 1);
                 self.key();
             }
         }

@@ -2,29 +2,26 @@
 //!
 //! A document is made from a seed, so that a failure can be made again; it is printed in hexadecimal.
 
-// links the static library with the proved code
-use czubrotek as _;
-
 pub mod binary_json;
 pub mod exports;
 pub mod fractured_json;
 pub mod random;
 pub mod spoil;
 
+/// A number that the environment may name.
+fn named(variable: &str, otherwise: u64) -> u64 {
+    let value = std::env::var(variable).ok();
+    value.and_then(|n| n.parse().ok()).unwrap_or(otherwise)
+}
+
 /// How many documents of each format are compared: as many as `CZUBROTEK_DOCUMENTS` says, else 110,000.
 pub fn documents() -> u64 {
-    std::env::var("CZUBROTEK_DOCUMENTS")
-        .ok()
-        .and_then(|n| n.parse().ok())
-        .unwrap_or(110_000)
+    named("CZUBROTEK_DOCUMENTS", 110_000)
 }
 
 /// The first seed: `CZUBROTEK_SEED`, else 1.
 pub fn first_seed() -> u64 {
-    std::env::var("CZUBROTEK_SEED")
-        .ok()
-        .and_then(|n| n.parse().ok())
-        .unwrap_or(1)
+    named("CZUBROTEK_SEED", 1)
 }
 
 /// A document in hexadecimal.

@@ -19,6 +19,18 @@ macro_rules! same {
     };
 }
 
+/// Asks `proved` and `plain` the same questions of a document, and compares the answers.
+macro_rules! both {
+    ($seed:expr, $doc:ident: $($question:ident($($argument:expr),*)),*) => {
+        $(same!(
+            $doc,
+            proved::$question($doc, $($argument),*),
+            plain::$question($doc, $($argument),*),
+            "seed {} {}{:?}", $seed, stringify!($question), ($(&$argument,)*)
+        );)*
+    };
+}
+
 /// A document of a seed: as made, or spoilt once or a few times.
 fn made(random: &mut Random, document: fn(&mut Random) -> Vec<u8>) -> Vec<u8> {
     let mut doc = document(random);
@@ -93,73 +105,13 @@ fn binary_json(seed: u64) -> usize {
     same!(doc, verdict, plain::check(doc), "seed {seed} check");
     let keys = sought(random, doc);
     for at in cursors(doc.len()) {
-        same!(
-            doc,
-            proved::kind_and_size(doc, at),
-            plain::kind_and_size(doc, at),
-            "seed {seed} kind_and_size {at}"
-        );
-        same!(
-            doc,
-            proved::entry_type(doc, at),
-            plain::entry_type(doc, at),
-            "seed {seed} entry_type {at}"
-        );
-        same!(
-            doc,
-            proved::container(doc, at),
-            plain::container(doc, at),
-            "seed {seed} container {at}"
-        );
-        same!(
-            doc,
-            proved::string(doc, at),
-            plain::string(doc, at),
-            "seed {seed} string {at}"
-        );
-        same!(
-            doc,
-            proved::number(doc, at),
-            plain::number(doc, at),
-            "seed {seed} number {at}"
-        );
-        same!(
-            doc,
-            proved::slot(doc, at),
-            plain::slot(doc, at),
-            "seed {seed} slot {at}"
-        );
+        both!(seed, doc: kind_and_size(at), entry_type(at), container(at));
+        both!(seed, doc: string(at), number(at), slot(at));
         for i in INDICES {
-            same!(
-                doc,
-                proved::element(doc, at, i),
-                plain::element(doc, at, i),
-                "seed {seed} element {at} {i}"
-            );
-            same!(
-                doc,
-                proved::member(doc, at, i),
-                plain::member(doc, at, i),
-                "seed {seed} member {at} {i}"
-            );
+            both!(seed, doc: element(at, i), member(at, i));
         }
         for key in &keys {
-            let quick = proved::quick_lookup(doc, at, key);
-            let scan = proved::plain_scan(doc, at, key);
-            same!(
-                doc,
-                quick,
-                plain::quick_lookup(doc, at, key),
-                "seed {seed} quick_lookup {at} {}",
-                hex(key)
-            );
-            same!(
-                doc,
-                scan,
-                plain::plain_scan(doc, at, key),
-                "seed {seed} plain_scan {at} {}",
-                hex(key)
-            );
+            both!(seed, doc: quick_lookup(at, key), plain_scan(at, key));
         }
     }
     number(verdict)
@@ -176,12 +128,10 @@ fn fractured_json(seed: u64) -> usize {
     let plainly = plain::check(doc, &mut other);
     same!(
         doc,
-        checked,
-        plainly,
-        "seed {seed} check, {} words",
-        table.len()
+        (checked, &table),
+        (plainly, &other),
+        "seed {seed} check"
     );
-    same!(doc, &table, &other, "seed {seed} key table");
     let mut count = checked.count;
     if random.once_in(4) {
         // any words and any count may be handed in
@@ -190,52 +140,12 @@ fn fractured_json(seed: u64) -> usize {
     }
     let (keys, table) = (sought(random, doc), &table[..]);
     for at in cursors(doc.len()) {
-        same!(
-            doc,
-            proved::end(doc, table, count, at),
-            plain::end(doc, table, count, at),
-            "seed {seed} end {at}, table {table:?} count {count}"
-        );
-        same!(
-            doc,
-            proved::kind(doc, at),
-            plain::kind(doc, at),
-            "seed {seed} kind {at}"
-        );
-        same!(
-            doc,
-            proved::number(doc, at),
-            plain::number(doc, at),
-            "seed {seed} number {at}"
-        );
-        same!(
-            doc,
-            proved::string(doc, at),
-            plain::string(doc, at),
-            "seed {seed} string {at}"
-        );
+        both!(seed, doc: end(table, count, at), kind(at), number(at), string(at));
         for i in INDICES {
-            same!(
-                doc,
-                proved::element(doc, table, count, at, i),
-                plain::element(doc, table, count, at, i),
-                "seed {seed} element {at} {i}, table {table:?} count {count}"
-            );
-            same!(
-                doc,
-                proved::member(doc, table, count, at, i),
-                plain::member(doc, table, count, at, i),
-                "seed {seed} member {at} {i}, table {table:?} count {count}"
-            );
+            both!(seed, doc: element(table, count, at, i), member(table, count, at, i));
         }
         for key in &keys {
-            same!(
-                doc,
-                proved::first_member(doc, table, count, at, key),
-                plain::first_member(doc, table, count, at, key),
-                "seed {seed} first_member {at} {}, table {table:?} count {count}",
-                hex(key)
-            );
+            both!(seed, doc: first_member(table, count, at, key));
         }
     }
     number(checked.verdict)

@@ -1,7 +1,76 @@
-//! A tree as Fractured JSON, in the shortest spelling, each key immediate where it first occurs.
+//! A tree as Fractured JSON, in the shortest spelling, each key immediate where it first occurs; and all spellings of lengths
+//! and keys, for other writers.
 
 use crate::Tree;
 use std::collections::HashMap;
+
+/// The type bytes or key bytes of one sort, each of which says a number: a length or an index.
+pub struct Form {
+    /// The byte that says 0; those that say the next numbers follow.
+    first: u8,
+    /// How many numbers have a byte of their own.
+    pub tiny: usize,
+    /// The byte behind which the number is spelled.
+    spelled: u8,
+}
+
+const fn form(first: u8, tiny: usize, spelled: u8) -> Form {
+    Form {
+        first,
+        tiny,
+        spelled,
+    }
+}
+
+// Type bytes, with a length.
+pub const STRING: Form = form(0x16, 88, 0x0D);
+pub const OBJECT: Form = form(0x6E, 48, 0x10);
+pub const ARRAY: Form = form(0x9E, 32, 0x13);
+
+// Key bytes, with the length of the text or its index.
+pub const IMMEDIATE: Form = form(0x03, 84, 0x00);
+pub const BACK_REFERENCE: Form = form(0x57, 84, 0x01);
+pub const GLOBAL_INDEX: Form = form(0xAB, 84, 0x02);
+
+impl Form {
+    /// A length: in the shortest spelling, or behind the type byte in at least 1, 2 or 4 bytes, for `width` 0, 1 or 2.
+    pub fn put_length(&self, doc: &mut Vec<u8>, n: usize, width: Option<usize>) {
+        match width.unwrap_or(0) {
+            _ if width.is_none() && n < self.tiny => doc.push(self.first + n as u8),
+            0 if n < 256 => doc.extend([self.spelled, n as u8]),
+            0 | 1 if n < 65_536 => {
+                doc.push(self.spelled + 1);
+                doc.extend((n as u16).to_le_bytes());
+            }
+            _ => {
+                doc.push(self.spelled + 2);
+                doc.extend((n as u32).to_le_bytes());
+            }
+        }
+    }
+
+    /// The number of a key: in the shortest spelling, or as a v_uint16 of so many bytes behind the key byte.
+    pub fn put_key_number(&self, doc: &mut Vec<u8>, n: usize, bytes: Option<usize>) {
+        if bytes.is_none() && n < self.tiny {
+            return doc.push(self.first + n as u8);
+        }
+        doc.push(self.spelled);
+        let bytes = bytes.unwrap_or(least_v_uint16(n));
+        for i in 0..bytes {
+            let more = if i + 1 < bytes { 0x80 } else { 0 };
+            doc.push(((n >> (7 * i)) & 0x7F) as u8 | more);
+        }
+    }
+}
+
+/// The fewest bytes that a v_uint16 takes.
+pub fn least_v_uint16(n: usize) -> usize {
+    match n {
+        0..=0x7F => 1,
+        0x80..=0x3FFF => 2,
+        _ => 3,
+    }
+}
 
 struct Writer<'a> {
     doc: Vec<u8>,
@@ -9,41 +78,12 @@ struct Writer<'a> {
 }
 
 impl<'a> Writer<'a> {
-    /// A length in the type byte, if it is below `tiny`, or behind one of three type bytes.
-    fn length(&mut self, n: usize, first: u8, tiny: usize, spelled: u8) {
-        if n < tiny {
-            self.doc.push(first + n as u8);
-        } else if n < 256 {
-            self.doc.extend([spelled, n as u8]);
-        } else if n < 65_536 {
-            self.doc.push(spelled + 1);
-            self.doc.extend((n as u16).to_le_bytes());
-        } else {
-            self.doc.push(spelled + 2);
-            self.doc.extend((n as u32).to_le_bytes());
-        }
-    }
-
-    /// A key byte with its number in it, or as a v_uint16 behind it.
-    fn key_number(&mut self, n: usize, spelled: u8, first: u8) {
-        if n < 84 {
-            return self.doc.push(first + n as u8);
-        }
-        self.doc.push(spelled);
-        let mut rest = n;
-        while rest >= 0x80 {
-            self.doc.push(rest as u8 | 0x80);
-            rest >>= 7;
-        }
-        self.doc.push(rest as u8);
-    }
-
     fn key(&mut self, text: &'a [u8]) {
         if let Some(&n) = self.keys.get(text) {
-            return self.key_number(n, 0x01, 0x57);
+            return BACK_REFERENCE.put_key_number(&mut self.doc, n, None);
         }
         self.keys.insert(text, self.keys.len());
-        self.key_number(text.len(), 0x00, 0x03);
+        IMMEDIATE.put_key_number(&mut self.doc, text.len(), None);
         self.doc.extend(text);
     }
 
@@ -56,17 +96,17 @@ impl<'a> Writer<'a> {
                 self.doc.extend(bits.to_le_bytes());
             }
             Tree::Text(text) => {
-                self.length(text.len(), 0x16, 88, 0x0D);
+                STRING.put_length(&mut self.doc, text.len(), None);
                 self.doc.extend(text);
             }
             Tree::Array(items) => {
-                self.length(items.len(), 0x9E, 32, 0x13);
+                ARRAY.put_length(&mut self.doc, items.len(), None);
                 for item in items {
                     self.value(item);
                 }
             }
             Tree::Object(members) => {
-                self.length(members.len(), 0x6E, 48, 0x10);
+                OBJECT.put_length(&mut self.doc, members.len(), None);
                 for (key, value) in members {
                     self.key(key);
                     self.value(value);

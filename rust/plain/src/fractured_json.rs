@@ -107,11 +107,7 @@ pub fn element(doc: &[u8], keys: &[u32], count: u64, at: u64, i: u64) -> Answer<
 
 /// Places of the key byte and of the value of member `j` of the object at `at`.
 pub fn member(doc: &[u8], keys: &[u32], count: u64, at: u64, j: u64) -> Answer<(u64, u64)> {
-    let (at, value_type) = open(doc, at)?;
-    let Type::Object(length) = value_type else {
-        return Err(Refusal::new(21, at));
-    };
-    let (length, mut next) = read_length(doc, at, length)?;
+    let (at, length, mut next) = open_object(doc, at)?;
     if j >= u64::from(length) {
         return Err(Refusal::new(22, at));
     }
@@ -133,11 +129,7 @@ pub fn first_member(
     at: u64,
     key: &[u8],
 ) -> Answer<Option<u64>> {
-    let (at, value_type) = open(doc, at)?;
-    let Type::Object(length) = value_type else {
-        return Err(Refusal::new(21, at));
-    };
-    let (length, mut next) = read_length(doc, at, length)?;
+    let (_, length, mut next) = open_object(doc, at)?;
     let mut walker = Walker::asking(doc, keys, count);
     for j in 0..length {
         let met = walker.key(next)?;
@@ -183,6 +175,17 @@ fn open(doc: &[u8], cursor: u64) -> Answer<(usize, Type)> {
         place: cursor,
     })?;
     Ok((at, read_type(doc, at)?))
+}
+
+/// What a question about an object starts with, 21 unless it is one: its place, how many members it
+/// has, and where the first one's key stands.
+fn open_object(doc: &[u8], cursor: u64) -> Answer<(usize, u32, usize)> {
+    let (at, value_type) = open(doc, cursor)?;
+    let Type::Object(length) = value_type else {
+        return Err(Refusal::new(21, at));
+    };
+    let (length, first) = read_length(doc, at, length)?;
+    Ok((at, length, first))
 }
 
 /// What a type byte says.

@@ -2,6 +2,7 @@
 
 use super::{Document, Kind, Number, TreeOffset, Type};
 use crate::Refusal;
+use crate::container::container;
 use std::iter::FusedIterator;
 use std::ops::Range;
 
@@ -66,12 +67,12 @@ impl<'a> Document<'a> {
         match self.kind_and_size(meta)? {
             (Kind::Array, len) => Ok(Value::Array(Array {
                 document,
-                meta,
+                offset: meta,
                 len,
             })),
             (Kind::Object, len) => Ok(Value::Object(Object {
                 document,
-                meta,
+                offset: meta,
                 len,
             })),
             (Kind::Scalar, _) => Err(Refusal {
@@ -82,46 +83,36 @@ impl<'a> Document<'a> {
     }
 }
 
-/// An array of a document.
-///
-/// ```
-/// use czubrotek::binary_json::{Document, Value};
-///
-/// // [null,false]
-/// let bytes = b"\x01\x02\0\0\x40\0\0\0\x02\0\0\0\0\0\0\0\0\0\0\0";
-/// let Value::Array(array) = Document::check(bytes)?.value()? else { panic!("no array") };
-/// assert_eq!(array.len(), 2);
-/// assert!(matches!(array.element(0)?, Value::Null));
-/// assert!(matches!(array.iter().next_back(), Some(Ok(Value::Bool(false)))));
-/// assert_eq!(array.element(2).unwrap_err().number, 22);
-/// # Ok::<(), czubrotek::Refusal>(())
-/// ```
-#[derive(Debug, Clone, Copy)]
-pub struct Array<'a> {
-    document: Document<'a>,
-    meta: TreeOffset,
-    len: usize,
+container! {
+    /// An array of a document.
+    ///
+    /// ```
+    /// use czubrotek::binary_json::{Document, Value};
+    ///
+    /// // [null,false]
+    /// let bytes = b"\x01\x02\0\0\x40\0\0\0\x02\0\0\0\0\0\0\0\0\0\0\0";
+    /// let Value::Array(array) = Document::check(bytes)?.value()? else { panic!("no array") };
+    /// assert_eq!(array.len(), 2);
+    /// assert!(matches!(array.element(0)?, Value::Null));
+    /// assert!(matches!(array.iter().next_back(), Some(Ok(Value::Bool(false)))));
+    /// assert_eq!(array.element(2).unwrap_err().number, 22);
+    /// # Ok::<(), czubrotek::Refusal>(())
+    /// ```
+    pub struct Array<'a> {
+        /// Its Meta.
+        offset: TreeOffset,
+        /// How many elements it has.
+        len: usize,
+    }
+
+    impl IntoIterator<Item = Result<Value<'a>, Refusal>, IntoIter = Elements<'a>>;
 }
 
 impl<'a> Array<'a> {
-    /// Its Meta.
-    pub fn offset(&self) -> TreeOffset {
-        self.meta
-    }
-
-    /// How many elements it has.
-    pub fn len(&self) -> usize {
-        self.len
-    }
-
-    /// Whether it has none.
-    pub fn is_empty(&self) -> bool {
-        self.len == 0
-    }
-
     /// Element `i`; 22 at or past the length.
     pub fn element(&self, i: usize) -> Result<Value<'a>, Refusal> {
-        self.document.value_at(self.document.element(self.meta, i)?)
+        self.document
+            .value_at(self.document.element(self.offset, i)?)
     }
 
     /// Its elements in order.
@@ -133,33 +124,22 @@ impl<'a> Array<'a> {
     }
 }
 
-/// An object of a document.
-#[derive(Debug, Clone, Copy)]
-pub struct Object<'a> {
-    document: Document<'a>,
-    meta: TreeOffset,
-    len: usize,
+container! {
+    /// An object of a document.
+    pub struct Object<'a> {
+        /// Its Meta.
+        offset: TreeOffset,
+        /// How many members it has.
+        len: usize,
+    }
+
+    impl IntoIterator<Item = Result<(&'a [u8], Value<'a>), Refusal>, IntoIter = Members<'a>>;
 }
 
 impl<'a> Object<'a> {
-    /// Its Meta.
-    pub fn offset(&self) -> TreeOffset {
-        self.meta
-    }
-
-    /// How many members it has.
-    pub fn len(&self) -> usize {
-        self.len
-    }
-
-    /// Whether it has none.
-    pub fn is_empty(&self) -> bool {
-        self.len == 0
-    }
-
     /// Key and value of member `j`; 22 at or past the length.
     pub fn member(&self, j: usize) -> Result<(&'a [u8], Value<'a>), Refusal> {
-        let member = self.document.member(self.meta, j)?;
+        let member = self.document.member(self.offset, j)?;
         Ok((
             self.document.slot(member.slot)?,
             self.document.value_at(member.entry)?,
@@ -179,7 +159,7 @@ impl<'a> Object<'a> {
     /// # Ok::<(), czubrotek::Refusal>(())
     /// ```
     pub fn get(&self, key: &[u8]) -> Result<Option<Value<'a>>, Refusal> {
-        let found = self.document.quick_lookup(self.meta, key)?;
+        let found = self.document.quick_lookup(self.offset, key)?;
         found
             .entry
             .map(|entry| self.document.value_at(entry))
@@ -249,21 +229,3 @@ impl ExactSizeIterator for Elements<'_> {}
 impl ExactSizeIterator for Members<'_> {}
 impl FusedIterator for Elements<'_> {}
 impl FusedIterator for Members<'_> {}
-
-impl<'a> IntoIterator for Array<'a> {
-    type Item = Result<Value<'a>, Refusal>;
-    type IntoIter = Elements<'a>;
-
-    fn into_iter(self) -> Elements<'a> {
-        self.iter()
-    }
-}
-
-impl<'a> IntoIterator for Object<'a> {
-    type Item = Result<(&'a [u8], Value<'a>), Refusal>;
-    type IntoIter = Members<'a>;
-
-    fn into_iter(self) -> Members<'a> {
-        self.iter()
-    }
-}

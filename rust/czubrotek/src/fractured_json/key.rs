@@ -1,7 +1,7 @@
 //! Reads a key at its key byte, which the proved library does only on its way to a value.
 
 use super::{Document, KeyOffset, MOST_KEYS, ValueOffset};
-use crate::{Refusal, ffi};
+use crate::Refusal;
 
 /// A key: its text, and the value that follows it.
 #[derive(Debug, Clone, Copy, PartialEq, Eq)]
@@ -44,7 +44,7 @@ impl<'a> Document<'a> {
             place: at.0,
         };
         // What every question refuses first is the library's to say.
-        match ffi::fj_kind(self.bytes(), at.0) {
+        match self.kind(ValueOffset(at.0)) {
             Err(first) if matches!(first.number, 20 | 31..=34) => return Err(first),
             _ => {}
         }

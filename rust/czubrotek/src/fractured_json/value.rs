@@ -2,6 +2,7 @@
 
 use super::{Document, Key, KeyOffset, Kind, Number, ValueOffset};
 use crate::Refusal;
+use crate::container::container;
 use std::iter::FusedIterator;
 
 /// A value of the tree.
@@ -29,59 +30,57 @@ impl<'a> Document<'a> {
 
     /// The value at an offset.
     pub fn value_at(&self, at: ValueOffset) -> Result<Value<'a>, Refusal> {
-        let document = *self;
+        let (document, offset) = (*self, at);
         Ok(match self.kind(at)? {
             Kind::Null => Value::Null,
             Kind::False => Value::Bool(false),
             Kind::True => Value::Bool(true),
             Kind::Number => Value::Number(self.number(at)?),
             Kind::String(_) => Value::String(self.string(at)?),
-            Kind::Array(len) => Value::Array(Array { document, at, len }),
-            Kind::Object(len) => Value::Object(Object { document, at, len }),
+            Kind::Array(len) => Value::Array(Array {
+                document,
+                offset,
+                len,
+            }),
+            Kind::Object(len) => Value::Object(Object {
+                document,
+                offset,
+                len,
+            }),
         })
     }
 }
 
-/// An array of a document.
-///
-/// ```
-/// use czubrotek::fractured_json::{Document, Number, Value};
-///
-/// // [-32,31]
-/// let document = Document::check(b"\x46\x4A\x01\xA0\xBE\xFD", &mut [])?;
-/// let Value::Array(array) = document.value()? else { panic!("no array") };
-/// assert_eq!(array.len(), 2);
-/// assert!(matches!(array.element(1)?, Value::Number(Number::Int(31))));
-/// assert_eq!(array.element(2).unwrap_err().number, 22);
-/// assert_eq!(array.iter().count(), 2);
-/// # Ok::<(), czubrotek::Refusal>(())
-/// ```
-#[derive(Debug, Clone, Copy)]
-pub struct Array<'a> {
-    document: Document<'a>,
-    at: ValueOffset,
-    len: usize,
+container! {
+    /// An array of a document.
+    ///
+    /// ```
+    /// use czubrotek::fractured_json::{Document, Number, Value};
+    ///
+    /// // [-32,31]
+    /// let document = Document::check(b"\x46\x4A\x01\xA0\xBE\xFD", &mut [])?;
+    /// let Value::Array(array) = document.value()? else { panic!("no array") };
+    /// assert_eq!(array.len(), 2);
+    /// assert!(matches!(array.element(1)?, Value::Number(Number::Int(31))));
+    /// assert_eq!(array.element(2).unwrap_err().number, 22);
+    /// assert_eq!(array.iter().count(), 2);
+    /// # Ok::<(), czubrotek::Refusal>(())
+    /// ```
+    pub struct Array<'a> {
+        /// Its type byte.
+        offset: ValueOffset,
+        /// How many elements it says it has; a checked one has them.
+        len: usize,
+    }
+
+    impl IntoIterator<Item = Result<Value<'a>, Refusal>, IntoIter = Elements<'a>>;
 }
 
 impl<'a> Array<'a> {
-    /// Its type byte.
-    pub fn offset(&self) -> ValueOffset {
-        self.at
-    }
-
-    /// How many elements it says it has; a checked one has them.
-    pub fn len(&self) -> usize {
-        self.len
-    }
-
-    /// Whether it has none.
-    pub fn is_empty(&self) -> bool {
-        self.len == 0
-    }
-
     /// Element `i`; 22 at or past the length.
     pub fn element(&self, i: usize) -> Result<Value<'a>, Refusal> {
-        self.document.value_at(self.document.element(self.at, i)?)
+        self.document
+            .value_at(self.document.element(self.offset, i)?)
     }
 
     /// Its elements in order.
@@ -94,33 +93,22 @@ impl<'a> Array<'a> {
     }
 }
 
-/// An object of a document.
-#[derive(Debug, Clone, Copy)]
-pub struct Object<'a> {
-    document: Document<'a>,
-    at: ValueOffset,
-    len: usize,
+container! {
+    /// An object of a document.
+    pub struct Object<'a> {
+        /// Its type byte.
+        offset: ValueOffset,
+        /// How many members it says it has; a checked one has them.
+        len: usize,
+    }
+
+    impl IntoIterator<Item = Result<(&'a [u8], Value<'a>), Refusal>, IntoIter = Members<'a>>;
 }
 
 impl<'a> Object<'a> {
-    /// Its type byte.
-    pub fn offset(&self) -> ValueOffset {
-        self.at
-    }
-
-    /// How many members it says it has; a checked one has them.
-    pub fn len(&self) -> usize {
-        self.len
-    }
-
-    /// Whether it has none.
-    pub fn is_empty(&self) -> bool {
-        self.len == 0
-    }
-
     /// Key and value of member `j`; 22 at or past the length.
     pub fn member(&self, j: usize) -> Result<(&'a [u8], Value<'a>), Refusal> {
-        let member = self.document.member(self.at, j)?;
+        let member = self.document.member(self.offset, j)?;
         let key = self.document.read_key(member.key)?;
         Ok((key.text, self.document.value_at(member.value)?))
     }
@@ -139,7 +127,7 @@ impl<'a> Object<'a> {
     /// # Ok::<(), czubrotek::Refusal>(())
     /// ```
     pub fn get(&self, key: &[u8]) -> Result<Option<Value<'a>>, Refusal> {
-        let found = self.document.first_member(self.at, key)?;
+        let found = self.document.first_member(self.offset, key)?;
         found.map(|value| self.document.value_at(value)).transpose()
     }
 
@@ -163,9 +151,11 @@ pub struct Elements<'a> {
 
 impl<'a> Elements<'a> {
     fn step(&mut self) -> Result<Value<'a>, Refusal> {
-        let Array { document, at, .. } = self.array;
+        let Array {
+            document, offset, ..
+        } = self.array;
         let element = match self.before {
-            None => document.element(at, 0)?,
+            None => document.element(offset, 0)?,
             Some(before) => ValueOffset(document.end(before)?),
         };
         self.before = Some(element);
@@ -183,9 +173,11 @@ pub struct Members<'a> {
 
 impl<'a> Members<'a> {
     fn step(&mut self) -> Result<(&'a [u8], Value<'a>), Refusal> {
-        let Object { document, at, .. } = self.object;
+        let Object {
+            document, offset, ..
+        } = self.object;
         let key = match self.before {
-            None => document.member(at, 0)?.key,
+            None => document.member(offset, 0)?.key,
             Some(before) => KeyOffset(document.end(before)?),
         };
         let Key { text, value } = document.read_key(key)?;
@@ -222,21 +214,3 @@ impl<'a> Iterator for Members<'a> {
 
 impl FusedIterator for Elements<'_> {}
 impl FusedIterator for Members<'_> {}
-
-impl<'a> IntoIterator for Array<'a> {
-    type Item = Result<Value<'a>, Refusal>;
-    type IntoIter = Elements<'a>;
-
-    fn into_iter(self) -> Elements<'a> {
-        self.iter()
-    }
-}
-
-impl<'a> IntoIterator for Object<'a> {
-    type Item = Result<(&'a [u8], Value<'a>), Refusal>;
-    type IntoIter = Members<'a>;
-
-    fn into_iter(self) -> Members<'a> {
-        self.iter()
-    }
-}

@@ -8,7 +8,7 @@ use std::{env, fs, slice};
 
 fn main() {
     if let Err(told) = build() {
-        eprintln!("czubrotek: {told}");
+        eprintln!("czubrotek-sys: {told}");
         exit(1);
     }
 }
