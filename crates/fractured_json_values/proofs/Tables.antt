@@ -1,177 +1,198 @@
--- The constant tables of types.rt against the rules' byte tables: one computed test over all 256 type bytes, and one over all
--- 256 key bytes.
+-- The constant tables of types.rt against the rules' byte tables. A type with a byte of its own is tested by computing, one byte
+-- after the other; a range goes by its two ends.
 use mathlib.Core.Path.{_≡_}
 use mathlib.Core.Bool.{Bool}
-use mathlib.Core.List.{List, [], _∷_, _++_}
-use Prim.Native.Nat.{ℕ, _-_, _<_, _≤_}
+use mathlib.Core.List.{List, [], _∷_}
+use Prim.Native.Nat.{ℕ, _+_, _-_, _/_, _%_, _<_, _≤_}
 use native.Mathlib.Omega.{arith}
 use borrow.Author.Needs.{needs}
 use borrow.Author.Tests.{lt-ltb, le-ltb}
-use lib.Dec.{T, leb, ltb, eqb, leb→le, ltb→lt, eqb→eq}
+use lib.Dec.{T, ltb, eqb, ltb→lt, eqb→eq}
 use lib.ListN.{getD, replicate}
 use mir.Syntax.{w64}
 use mir.Val.{Fits}
 use Rattle.json.specs.Choose.{choose}
-use Rattle.fractured_json_rules.specs.ByteTables.{formOf, keyFormOf}
-use Rattle.fractured_json_values.specs.Heads.{headOf, keyHeadOf}
+use Rattle.fractured_json_rules.specs.ByteTables.{formOf, inByte, keyFormOf}
+use Rattle.fractured_json_values.specs.Heads.{head, headOf, keyHead, keyHeadOf}
 use Rattle.fractured_json_values.specs.declared.types.Head.{Head}
 use Rattle.fractured_json_values.specs.declared.types.KeyHead.{KeyHead}
 use Rattle.json.proofs.Table.{both, split, every, at}
 
--- ---- type bytes
+-- ---- types with a byte of their own
 
-abbrev pub rows : List ℕ
-rows = 0 ∷ 1 ∷ 2 ∷ 3 ∷ 4 ∷ 5 ∷ 6 ∷ 7 ∷ 8 ∷ 9 ∷ 10 ∷ 11 ∷ 12 ∷ 13 ∷ 14 ∷ 15 ∷ 16 ∷ 17 ∷ 18 ∷ 19 ∷ 20 ∷ 21
-    ∷ (replicate 88 22 ++ (replicate 48 23 ++ (replicate 32 24 ++ replicate 66 25)))
+abbrev pub numberWidths : List ℕ
+numberWidths = 1 ∷ 1 ∷ 2 ∷ 2 ∷ 4 ∷ 4 ∷ 8 ∷ 8 ∷ 4 ∷ 8 ∷ []
 
-abbrev pub starts : List ℕ
-starts = 0 ∷ 1 ∷ 2 ∷ 3 ∷ 4 ∷ 5 ∷ 6 ∷ 7 ∷ 8 ∷ 9 ∷ 10 ∷ 11 ∷ 12 ∷ 13 ∷ 14 ∷ 15 ∷ 16 ∷ 17 ∷ 18 ∷ 19 ∷ 20 ∷ 21 ∷ 22 ∷ 110 ∷ 158 ∷ 190 ∷ []
+abbrev pub lengthWidths : List ℕ
+lengthWidths = 1 ∷ 2 ∷ 4 ∷ []
 
-abbrev pub lengths : List ℕ
-lengths = 1 ∷ 1 ∷ 1 ∷ 1 ∷ 1 ∷ 1 ∷ 1 ∷ 1 ∷ 1 ∷ 1 ∷ 1 ∷ 1 ∷ 1 ∷ 1 ∷ 1 ∷ 1 ∷ 1 ∷ 1 ∷ 1 ∷ 1 ∷ 1 ∷ 1 ∷ 88 ∷ 48 ∷ 32 ∷ 64 ∷ []
+sameHead : ℕ → ℕ → Head → Bool
+sameHead k w h = both (eqb k (h .kind)) (both (eqb w (h .width)) (both (eqb 0 (h .tiny)) (ltb w 9)))
 
-abbrev pub widths : List ℕ
-widths = 0 ∷ 0 ∷ 0 ∷ 1 ∷ 1 ∷ 2 ∷ 2 ∷ 4 ∷ 4 ∷ 8 ∷ 8 ∷ 4 ∷ 8 ∷ 1 ∷ 2 ∷ 4 ∷ 1 ∷ 2 ∷ 4 ∷ 1 ∷ 2 ∷ 4 ∷ 0 ∷ 0 ∷ 0 ∷ 0 ∷ []
-
-abbrev pub kinds : List ℕ
-kinds = 0 ∷ 1 ∷ 2 ∷ 3 ∷ 4 ∷ 3 ∷ 4 ∷ 3 ∷ 4 ∷ 3 ∷ 4 ∷ 6 ∷ 7 ∷ 8 ∷ 8 ∷ 8 ∷ 9 ∷ 9 ∷ 9 ∷ 10 ∷ 10 ∷ 10 ∷ 8 ∷ 9 ∷ 10 ∷ 5 ∷ []
-
-sameHead : ℕ → ℕ → ℕ → Head → Bool
-sameHead k w t h = both (eqb k (h .kind)) (both (eqb w (h .width)) (eqb t (h .tiny)))
-
--- a byte in the range of its row is what the columns say, a byte past it is reserved
-entryRight : ℕ → ℕ → Bool
-entryRight b row =
-    both (leb (getD starts row 0) b)
-    (choose (ltb (b - getD starts row 0) (getD lengths row 0))
-    (sameHead (getD kinds row 0) (getD widths row 0) (b - getD starts row 0) (headOf (formOf b)))
-    (sameHead 11 0 0 (headOf (formOf b))))
-
-right : ℕ → ℕ → Bool
-right b row = both (ltb row 26) (both (ltb (getD widths row 0) 9) (entryRight b row))
-
-rows-right : T (every right 0 rows)
-unfolding right entryRight sameHead formOf choose
-rows-right = tt
-
-same-head : {k w t : ℕ} {h : Head} → T (sameHead k w t h) → record { kind = k; width = w; tiny = t } ≡ h
+same-head : {k w : ℕ} {h : Head} → T (sameHead k w h) → (head k w 0 ≡ h) × (w < 9)
 unfolding sameHead
-same-head {k} {w} {t} {h} x =
-    let (a, y) = split (eqb k (h .kind)) (both (eqb w (h .width)) (eqb t (h .tiny))) x in
-    let (b, c) = split (eqb w (h .width)) (eqb t (h .tiny)) y in
+same-head {k} {w} {h} x =
+    let (a, y) = split (eqb k (h .kind)) (both (eqb w (h .width)) (both (eqb 0 (h .tiny)) (ltb w 9))) x in
+    let (b, z) = split (eqb w (h .width)) (both (eqb 0 (h .tiny)) (ltb w 9)) y in
+    let (c, d) = split (eqb 0 (h .tiny)) (ltb w 9) z in
     let e1 = eqb→eq k (h .kind) a in
     let e2 = eqb→eq w (h .width) b in
-    let e3 = eqb→eq t (h .tiny) c in
-    rw (e1, e2, e3)
+    let e3 = eqb→eq 0 (h .tiny) c in
+    (rw (e1, e2, e3), ltb→lt w 9 d)
 
-module _ (b : ℕ) (h : b < 256) where
-  checked : T (ltb (getD rows b 0) 26) × T (both (ltb (getD widths (getD rows b 0) 0) 9) (entryRight b (getD rows b 0)))
-  unfolding right
-  checked = split (ltb (getD rows b 0) 26) (both (ltb (getD widths (getD rows b 0) 0) 9) (entryRight b (getD rows b 0))) (at right rows rows-right b h)
+plain : ℕ → ℕ → Bool
+plain b x = sameHead b 0 (headOf (formOf b))
 
-  entry : T (ltb (getD widths (getD rows b 0) 0) 9) × T (entryRight b (getD rows b 0))
-  entry = split (ltb (getD widths (getD rows b 0) 0) 9) (entryRight b (getD rows b 0)) (checked .1)
+number : ℕ → ℕ → Bool
+number i w = sameHead (choose (ltb i 8) (3 + i % 2) (i - 2)) w (headOf (formOf (i + 3)))
 
-  columns : T (leb (getD starts (getD rows b 0) 0) b) × T (choose (ltb (b - getD starts (getD rows b 0) 0) (getD lengths (getD rows b 0) 0))
-      (sameHead (getD kinds (getD rows b 0) 0) (getD widths (getD rows b 0) 0) (b - getD starts (getD rows b 0) 0) (headOf (formOf b)))
-      (sameHead 11 0 0 (headOf (formOf b))))
-  unfolding entryRight
-  columns = split (leb (getD starts (getD rows b 0) 0) b) _ (entry .1)
+sized : ℕ → ℕ → Bool
+sized i x = sameHead (8 + i / 3) (getD lengthWidths (i % 3) 0) (headOf (formOf (i + 13)))
 
-  pub row-below : getD rows b 0 < 26
-  row-below = ltb→lt (getD rows b 0) 26 (checked .0)
+all-plain : T (every plain 0 (replicate 3 0))
+unfolding plain sameHead formOf choose
+all-plain = tt
 
-  pub row-fits : Fits w64 (getD rows b 0)
-  row-fits = let l = row-below in record { fits = omega arith }
+all-numbers : T (every number 0 numberWidths)
+unfolding number sameHead formOf choose
+all-numbers = tt
 
-  pub width-fits : Fits w64 (getD widths (getD rows b 0) 0)
-  width-fits = let l = ltb→lt (getD widths (getD rows b 0) 0) 9 (entry .0) in record { fits = omega arith }
+all-sized : T (every sized 0 (replicate 9 0))
+unfolding sized sameHead formOf choose
+all-sized = tt
 
-  pub start-below : getD starts (getD rows b 0) 0 ≤ b
-  start-below = leb→le (getD starts (getD rows b 0) 0) b (columns .0)
+pub plain-right : (b : ℕ) → b < 3 → head b 0 0 ≡ headOf (formOf b)
+unfolding plain
+plain-right b h = same-head (at plain (replicate 3 0) all-plain b h) .0
 
-  pub in-range : b - getD starts (getD rows b 0) 0 < getD lengths (getD rows b 0) 0
-      → record { kind = getD kinds (getD rows b 0) 0; width = getD widths (getD rows b 0) 0; tiny = b - getD starts (getD rows b 0) 0 } ≡ headOf (formOf b)
+module _ (i : ℕ) (h : i < 10) where
+  number-is : (head (choose (ltb i 8) (3 + i % 2) (i - 2)) (getD numberWidths i 0) 0 ≡ headOf (formOf (i + 3))) × (getD numberWidths i 0 < 9)
+  unfolding number
+  number-is = same-head (at number numberWidths all-numbers i h)
+
+  pub number-fits : Fits w64 (getD numberWidths i 0)
+  number-fits = let l = number-is .1 in record { fits = omega arith }
+
+  pub int-right : i < 8 → head (3 + i % 2) (getD numberWidths i 0) 0 ≡ headOf (formOf (i + 3))
   unfolding choose
-  in-range l = same-head (rw (lt-ltb (b - getD starts (getD rows b 0) 0) (getD lengths (getD rows b 0) 0) l) at columns .1)
+  int-right l = rw (lt-ltb i 8 l) at number-is .0
 
-  pub past-range : getD lengths (getD rows b 0) 0 ≤ b - getD starts (getD rows b 0) 0 → record { kind = 11; width = 0; tiny = 0 } ≡ headOf (formOf b)
+  pub float-right : 8 ≤ i → head (i - 2) (getD numberWidths i 0) 0 ≡ headOf (formOf (i + 3))
   unfolding choose
-  past-range l = same-head (rw (le-ltb (b - getD starts (getD rows b 0) 0) (getD lengths (getD rows b 0) 0) l) at columns .1)
+  float-right l = rw (le-ltb i 8 l) at number-is .0
 
-pub ruleset type-laws = (row-below, row-fits, start-below, width-fits, in-range, past-range, needs)
+pub ruleset number-laws = (number-fits, int-right, float-right, needs)
+
+module _ (i : ℕ) (h : i < 9) where
+  sized-is : (head (8 + i / 3) (getD lengthWidths (i % 3) 0) 0 ≡ headOf (formOf (i + 13))) × (getD lengthWidths (i % 3) 0 < 9)
+  unfolding sized
+  sized-is = same-head (at sized (replicate 9 0) all-sized i h)
+
+  pub length-fits : Fits w64 (getD lengthWidths (i % 3) 0)
+  length-fits = let l = sized-is .1 in record { fits = omega arith }
+
+  pub length-right : head (8 + i / 3) (getD lengthWidths (i % 3) 0) 0 ≡ headOf (formOf (i + 13))
+  length-right = sized-is .0
+
+pub ruleset length-laws = (length-fits, length-right, needs)
+
+-- ---- ranges
+
+module _ (b : ℕ) (m : 22 ≤ b) where
+  pub tiny-string : b - 22 < 88 → head 8 0 (b - 22) ≡ headOf (formOf b)
+  unfolding formOf choose
+  tiny-string h = let u : b < 110 = omega arith in rw (le-ltb b 22 m, lt-ltb b 110 u)
+
+  module _ (m1 : 88 ≤ b - 22) where
+    pub tiny-object : b - 110 < 48 → head 9 0 (b - 110) ≡ headOf (formOf b)
+    unfolding formOf choose
+    tiny-object h = let l : 110 ≤ b = omega arith in let u : b < 158 = omega arith in rw (le-ltb b 22 m, le-ltb b 110 l, lt-ltb b 158 u)
+
+    module _ (m2 : 48 ≤ b - 110) where
+      pub tiny-array : b - 158 < 32 → head 10 0 (b - 158) ≡ headOf (formOf b)
+      unfolding formOf choose
+      tiny-array h =
+          let l : 110 ≤ b = omega arith in
+          let k : 158 ≤ b = omega arith in
+          let u : b < 190 = omega arith in
+          rw (le-ltb b 22 m, le-ltb b 110 l, le-ltb b 158 k, lt-ltb b 190 u)
+
+      module _ (m3 : 32 ≤ b - 158) where
+        above : (190 ≤ b) × (158 ≤ b) × (110 ≤ b)
+        above = (omega arith, omega arith, omega arith)
+
+        pub tiny-int : b - 190 < 64 → head 5 0 (b - 190) ≡ headOf (formOf b)
+        unfolding formOf choose
+        tiny-int h = let u : b < 254 = omega (arith, above) in rw (le-ltb b 22 m, le-ltb b 110 (above .2), le-ltb b 158 (above .1), le-ltb b 190 (above .0), lt-ltb b 254 u)
+
+        pub reserved-type : 64 ≤ b - 190 → head 11 0 0 ≡ headOf (formOf b)
+        unfolding formOf choose
+        reserved-type h = let u : 254 ≤ b = omega (arith, above) in rw (le-ltb b 22 m, le-ltb b 110 (above .2), le-ltb b 158 (above .1), le-ltb b 190 (above .0), le-ltb b 254 u)
+
+pub ruleset tiny-laws = (tiny-string, tiny-object, tiny-array, tiny-int, reserved-type, needs)
+
+-- the byte from its place in the range
+module _ (b : ℕ) (r : Head) where
+  pub from-number : 3 ≤ b → r ≡ headOf (formOf (b - 3 + 3)) → r ≡ headOf (formOf b)
+  from-number h e = let z : b - 3 + 3 ≡ b = omega arith in rw z at e
+
+  pub from-length : 10 ≤ b - 3 → r ≡ headOf (formOf (b - 13 + 13)) → r ≡ headOf (formOf b)
+  from-length h e = let z : b - 13 + 13 ≡ b = omega arith in rw z at e
+
+pub ruleset type-laws = (plain-right, from-number, from-length, needs)
 
 -- ---- key bytes
 
-abbrev pub keyRows : List ℕ
-keyRows = 0 ∷ 1 ∷ 2 ∷ (replicate 84 3 ++ (replicate 84 4 ++ replicate 85 5))
+sameKey : ℕ → KeyHead → Bool
+sameKey k h = both (eqb k (h .kind)) (both (eqb 1 (h .spelled)) (eqb 0 (h .number)))
 
-abbrev pub keyStarts : List ℕ
-keyStarts = 0 ∷ 1 ∷ 2 ∷ 3 ∷ 87 ∷ 171 ∷ []
+spelledKey : ℕ → ℕ → Bool
+spelledKey b x = sameKey b (keyHeadOf (keyFormOf b))
 
-abbrev pub keyLengths : List ℕ
-keyLengths = 1 ∷ 1 ∷ 1 ∷ 84 ∷ 84 ∷ 84 ∷ []
+all-spelled : T (every spelledKey 0 (replicate 3 0))
+unfolding spelledKey sameKey keyFormOf choose
+all-spelled = tt
 
-abbrev pub keyKinds : List ℕ
-keyKinds = 0 ∷ 1 ∷ 2 ∷ 0 ∷ 1 ∷ 2 ∷ []
-
-abbrev pub keySpelled : List ℕ
-keySpelled = 1 ∷ 1 ∷ 1 ∷ 0 ∷ 0 ∷ 0 ∷ []
-
-sameKey : ℕ → ℕ → ℕ → KeyHead → Bool
-sameKey k s n h = both (eqb k (h .kind)) (both (eqb s (h .spelled)) (eqb n (h .number)))
-
-keyEntryRight : ℕ → ℕ → Bool
-keyEntryRight b row =
-    both (leb (getD keyStarts row 0) b)
-    (choose (ltb (b - getD keyStarts row 0) (getD keyLengths row 0))
-    (sameKey (getD keyKinds row 0) (getD keySpelled row 0) (b - getD keyStarts row 0) (keyHeadOf (keyFormOf b)))
-    (sameKey 3 0 0 (keyHeadOf (keyFormOf b))))
-
-rightKey : ℕ → ℕ → Bool
-rightKey b row = both (ltb row 6) (keyEntryRight b row)
-
-keys-right : T (every rightKey 0 keyRows)
-unfolding rightKey keyEntryRight sameKey keyFormOf choose
-keys-right = tt
-
-same-key : {k s n : ℕ} {x : KeyHead} → T (sameKey k s n x) → record { kind = k; spelled = s; number = n } ≡ x
+same-key : {k : ℕ} {h : KeyHead} → T (sameKey k h) → record { kind = k; spelled = 1; number = 0 } ≡ h
 unfolding sameKey
-same-key {k} {s} {n} {x} t =
-    let (a, y) = split (eqb k (x .kind)) (both (eqb s (x .spelled)) (eqb n (x .number))) t in
-    let (b, c) = split (eqb s (x .spelled)) (eqb n (x .number)) y in
-    let e1 = eqb→eq k (x .kind) a in
-    let e2 = eqb→eq s (x .spelled) b in
-    let e3 = eqb→eq n (x .number) c in
+same-key {k} {h} x =
+    let (a, y) = split (eqb k (h .kind)) (both (eqb 1 (h .spelled)) (eqb 0 (h .number))) x in
+    let (b, c) = split (eqb 1 (h .spelled)) (eqb 0 (h .number)) y in
+    let e1 = eqb→eq k (h .kind) a in
+    let e2 = eqb→eq 1 (h .spelled) b in
+    let e3 = eqb→eq 0 (h .number) c in
     rw (e1, e2, e3)
 
-module _ (b : ℕ) (h : b < 256) where
-  key-checked : T (ltb (getD keyRows b 0) 6) × T (keyEntryRight b (getD keyRows b 0))
-  unfolding rightKey
-  key-checked = split (ltb (getD keyRows b 0) 6) (keyEntryRight b (getD keyRows b 0)) (at rightKey keyRows keys-right b h)
+module _ (b : ℕ) where
+  pub key-spelled : b < 3 → record { kind = b; spelled = 1; number = 0 } ≡ keyHeadOf (keyFormOf b)
+  unfolding spelledKey
+  key-spelled h = same-key (at spelledKey (replicate 3 0) all-spelled b h)
 
-  key-columns : T (leb (getD keyStarts (getD keyRows b 0) 0) b) × T (choose (ltb (b - getD keyStarts (getD keyRows b 0) 0) (getD keyLengths (getD keyRows b 0) 0))
-      (sameKey (getD keyKinds (getD keyRows b 0) 0) (getD keySpelled (getD keyRows b 0) 0) (b - getD keyStarts (getD keyRows b 0) 0) (keyHeadOf (keyFormOf b)))
-      (sameKey 3 0 0 (keyHeadOf (keyFormOf b))))
-  unfolding keyEntryRight
-  key-columns = split (leb (getD keyStarts (getD keyRows b 0) 0) b) _ (key-checked .1)
+  module _ (m : 3 ≤ b) where
+    pub key-immediate : b - 3 < 84 → keyHead 0 (inByte (b - 3)) ≡ keyHeadOf (keyFormOf b)
+    unfolding keyFormOf choose
+    key-immediate h = let u : b < 87 = omega arith in rw (le-ltb b 3 m, lt-ltb b 87 u)
 
-  pub key-row-below : getD keyRows b 0 < 6
-  key-row-below = ltb→lt (getD keyRows b 0) 6 (key-checked .0)
+    module _ (m1 : 84 ≤ b - 3) where
+      pub key-back : b - 87 < 84 → keyHead 1 (inByte (b - 87)) ≡ keyHeadOf (keyFormOf b)
+      unfolding keyFormOf choose
+      key-back h = let l : 87 ≤ b = omega arith in let u : b < 171 = omega arith in rw (le-ltb b 3 m, le-ltb b 87 l, lt-ltb b 171 u)
 
-  pub key-row-fits : Fits w64 (getD keyRows b 0)
-  key-row-fits = let l = key-row-below in record { fits = omega arith }
+      module _ (m2 : 84 ≤ b - 87) where
+        pub key-global : b - 171 < 84 → keyHead 2 (inByte (b - 171)) ≡ keyHeadOf (keyFormOf b)
+        unfolding keyFormOf choose
+        key-global h =
+            let l : 87 ≤ b = omega arith in
+            let k : 171 ≤ b = omega arith in
+            let u : b < 255 = omega arith in
+            rw (le-ltb b 3 m, le-ltb b 87 l, le-ltb b 171 k, lt-ltb b 255 u)
 
-  pub key-start-below : getD keyStarts (getD keyRows b 0) 0 ≤ b
-  key-start-below = leb→le (getD keyStarts (getD keyRows b 0) 0) b (key-columns .0)
+        pub key-reserved : 84 ≤ b - 171 → record { kind = 3; spelled = 0; number = 0 } ≡ keyHeadOf (keyFormOf b)
+        unfolding keyFormOf choose
+        key-reserved h =
+            let l : 87 ≤ b = omega arith in
+            let k : 171 ≤ b = omega arith in
+            let u : 255 ≤ b = omega arith in
+            rw (le-ltb b 3 m, le-ltb b 87 l, le-ltb b 171 k, le-ltb b 255 u)
 
-  pub key-in-range : b - getD keyStarts (getD keyRows b 0) 0 < getD keyLengths (getD keyRows b 0) 0
-      → record { kind = getD keyKinds (getD keyRows b 0) 0; spelled = getD keySpelled (getD keyRows b 0) 0; number = b - getD keyStarts (getD keyRows b 0) 0 } ≡ keyHeadOf (keyFormOf b)
-  unfolding choose
-  key-in-range l = same-key (rw (lt-ltb (b - getD keyStarts (getD keyRows b 0) 0) (getD keyLengths (getD keyRows b 0) 0) l) at key-columns .1)
-
-  pub key-past-range : getD keyLengths (getD keyRows b 0) 0 ≤ b - getD keyStarts (getD keyRows b 0) 0 → record { kind = 3; spelled = 0; number = 0 } ≡ keyHeadOf (keyFormOf b)
-  unfolding choose
-  key-past-range l = same-key (rw (le-ltb (b - getD keyStarts (getD keyRows b 0) 0) (getD keyLengths (getD keyRows b 0) 0) l) at key-columns .1)
-
-pub ruleset key-laws = (key-row-below, key-row-fits, key-start-below, key-in-range, key-past-range, needs)
+pub ruleset key-laws = (key-spelled, key-immediate, key-back, key-global, key-reserved, needs)

@@ -17,6 +17,7 @@ use Rattle.fractured_json_rules.specs.Verdict.{byteAt, payload, lengthAt, Count
 use Rattle.fractured_json_values.specs.Heads.{widthIn, tinyIn, headOf}
 use Rattle.fractured_json_values.specs.Opened.{sizedAt, Opened, leaf, inside, finiteKind, openKind, openHead, openedAt, entry}
 use Rattle.fractured_json_values.proofs.Carried.{opened-done, opened-halts}
+use Rattle.fractured_json_values.proofs.Forms.{every-form}
 
 -- ---- what every form of a type byte keeps
 
@@ -38,31 +39,14 @@ Sound (fObject x) = Unit {0}
 Sound (fArray x) = Unit {0}
 Sound fReserved = Unit {0}
 
-abbrev All : List Form → Type 0
-All [] = Unit {0}
-All (f ∷ fs) = Sound f × All fs
-
-all-at : (fs : List Form) → All fs → (i : ℕ) → Sound (getD fs i fReserved)
-all-at [] h i = tt
-all-at (f ∷ fs) h zero = h .0
-all-at (f ∷ fs) h (suc i) = all-at fs (h .1) i
-
-first-sound : All firstForms
-first-sound = (tt, (tt, (tt, (tt, (tt, (tt, (tt, (tt, (tt, (tt, (tt, (refl, (refl, (tt, (tt, (tt, (tt, (tt, (tt, (tt, (tt, (tt, tt))))))))))))))))))))))
-
-either : (m n : ℕ) (f g : Form) → (m < n → Sound f) → (n ≤ m → Sound g) → Sound (choose (ltb m n) f g)
-unfolding choose
-either m n f g h k = go (ltb m n) (ltb→lt m n) (nltb→le m n)
-  where
-    go : (b : Bool) → (T b → m < n) → (T (not b) → n ≤ m) → Sound (choose b f g)
-    go true p q = h (p tt)
-    go false p q = k (q tt)
-
 pub sound : (b : ℕ) → Sound (formOf b)
-unfolding formOf
-sound b =
-    either b 0x16 (getD firstForms b fReserved) _ (λ _. all-at firstForms first-sound b)
-    (λ _. either b 0x6E _ _ (λ _. tt) (λ _. either b 0x9E _ _ (λ _. tt) (λ _. either b 0xBE _ _ (λ _. tt) (λ l. either b 0xFE _ _ (λ u. (l, u)) (λ _. tt)))))
+sound =
+    every-form Sound tt
+    (tt, (tt, (tt, (tt, (tt, (tt, (tt, (tt, (tt, (tt, (tt, (refl, (refl, (tt, (tt, (tt, (tt, (tt, (tt, (tt, (tt, (tt, tt))))))))))))))))))))))
+    (λ n. tt)
+    (λ n. tt)
+    (λ n. tt)
+    (λ b l u. (l, u))
 
 -- ---- chains
 

@@ -6,6 +6,7 @@ use mathlib.Core.List.{List}
 use mathlib.Core.Path.{_≡_}
 use lib.Dec.{ltb, leb, eqb}
 use lib.ListN.{length}
+use Rattle.json.specs.Bytes.{number}
 use Rattle.json.specs.Choose.{choose}
 use Rattle.json.specs.Number.{binary32, binary64, finite}
 use Rattle.json.specs.Reading.{Reading, Asked, answers, refuses, answer, refuse, _>>=_, _>>_, need}
@@ -31,6 +32,22 @@ pub data Opened : Type 0 where
 -- a float is finite; whatever is no float passes
 unfoldable pub finiteKind : ℕ → ℕ → Bool
 finiteKind kind n = choose (eqb kind 6) (finite binary32 n) (choose (eqb kind 7) (finite binary64 n) true)
+
+-- the float at o is finite; whatever is no float passes
+unfoldable pub finiteAt : List ℕ → ℕ → ℕ → Bool
+finiteAt doc o kind = choose (eqb kind 6) (finite binary32 (number doc (o + 1) 4)) (choose (eqb kind 7) (finite binary64 (number doc (o + 1) 8)) true)
+
+-- the payload of a float at o lies inside the document
+unfoldable pub FloatInside : List ℕ → ℕ → ℕ → Type 0
+FloatInside doc o kind = (kind ≡ 6 → o + 4 < length doc) × (kind ≡ 7 → o + 8 < length doc)
+
+-- a float has the width of its format
+unfoldable pub FloatWidth : ℕ → ℕ → Type 0
+FloatWidth kind width = (kind ≡ 6 → width ≡ 4) × (kind ≡ 7 → width ≡ 8)
+
+-- a length behind its byte takes one, two or four bytes
+unfoldable pub LengthWidth : ℕ → Type 0
+LengthWidth width = (width ≡ 1 → ⊥) → (width ≡ 2 → ⊥) → width ≡ 4
 
 -- the value at o by its kind, with length or payload n, which ends at `past`, in a document of so many bytes
 unfoldable pub openKind : {S : Type 0} → ℕ → ℕ → ℕ → ℕ → ℕ → Reading S Opened

@@ -1,11 +1,15 @@
 // What stands at a type byte: its length or payload, and a value read up to a container's contents.
+use crate::types::Head;
 use crate::types::head_of;
 use json::Refusal;
 ghost use mathlib.Core.Path.{_≡_};
-ghost use Prim.Native.Nat.{_≤_, _<_};
-ghost use lib.ListN.{length};
+ghost use Prim.Native.Nat.{_+_, _-_, _≤_, _<_};
+ghost use lib.ListN.{length, getD};
+ghost use Rattle.json.specs.Bytes.{number};
 ghost use Rattle.json.specs.Reading.{ask};
-ghost use Rattle.fractured_json_values.specs.Opened.{sizedAt, finiteKind, openKind, openedAt, Counts, Below, toldOpen};
+ghost use Rattle.fractured_json_rules.specs.ByteTables.{formOf};
+ghost use Rattle.fractured_json_values.specs.Heads.{headOf};
+ghost use Rattle.fractured_json_values.specs.Opened.{sizedAt, finiteKind, finiteAt, FloatInside, FloatWidth, LengthWidth, openKind, openedAt, Counts, Below, toldOpen};
 
 // A number, and where it ends.
 pub enum Counted {
@@ -93,6 +97,74 @@ fn open_kind(len: usize, at: usize, kind: u8, n: usize, past: usize) -> Open
     })
 }
 
+// Whether a float at a place is finite, by the two bytes that hold its exponent; whatever is no float passes.
+fn finite_at(doc: &[u8], at: usize, kind: u8) -> bool
+    requires { ⌜ FloatInside (now doc) at kind ⌝ }
+    ensures { λ r. ⌜ r ≡ finiteAt (now (doc .entry)) at kind ⌝ }
+{
+    if kind == 6 {
+        let high = word::integer(doc, at + 3, 2);
+        return high / 128 % 256 != 255;
+    }
+    if kind == 7 {
+        let high = word::integer(doc, at + 7, 2);
+        return high / 16 % 2048 != 2047;
+    }
+    true
+}
+
+// The length in the bytes behind the byte at a place.
+fn length_at(doc: &[u8], at: usize, width: usize) -> usize
+    requires { ⌜ LengthWidth width × (width < length (now doc) - at) ⌝ }
+    ensures { λ r. ⌜ r ≡ number (now (doc .entry)) (at + 1) width ⌝ }
+{
+    if width == 1 {
+        return word::integer(doc, at + 1, 1) as usize;
+    }
+    if width == 2 {
+        return word::integer(doc, at + 1, 2) as usize;
+    }
+    word::integer(doc, at + 1, 4) as usize
+}
+
+// The number at a place, whose payload takes so many bytes.
+fn open_scalar(doc: &[u8], at: usize, kind: u8, width: usize) -> Open
+    requires { ⌜ FloatWidth kind width × (kind < 8) × (width < length (now doc) - at) ⌝ }
+    ensures { λ r. ⌜ toldOpen r ≡ ask (openKind (length (now (doc .entry))) at kind (number (now (doc .entry)) (at + 1) width) (at + 1 + width)) ⌝ }
+{
+    if finite_at(doc, at, kind) {
+        return Open::Leaf(at + 1 + width);
+    }
+    Open::Refused(Refusal {
+        number: 43,
+        place: at,
+    })
+}
+
+// The value at a place by the head of its type byte, up to a container's contents. Nothing is read of an int's payload, and of
+// a float's no more than the exponent.
+pub fn open_head(doc: &[u8], at: usize, h: Head) -> Open
+    requires { ⌜ (at < length (now doc)) × (h ≡ headOf (formOf (getD (now doc) at 0))) ⌝ }
+    ensures { λ r. ⌜ toldOpen r ≡ ask (openedAt (now (doc .entry)) at) ⌝ }
+{
+    let kind = h.kind;
+    let width = h.width;
+    if width == 0 {
+        return open_kind(doc.len(), at, kind, h.tiny, at + 1);
+    }
+    if doc.len() - at <= width {
+        return Open::Refused(Refusal {
+            number: 35,
+            place: at,
+        });
+    }
+    if kind < 8 {
+        return open_scalar(doc, at, kind, width);
+    }
+    let n = length_at(doc, at, width);
+    open_kind(doc.len(), at, kind, n, at + 1 + width)
+}
+
 // The value at a place, up to a container's contents.
 pub fn open_at(doc: &[u8], at: usize) -> Open
     ensures { λ r. ⌜ toldOpen r ≡ ask (openedAt (now (doc .entry)) at) ⌝ }
@@ -104,9 +176,5 @@ pub fn open_at(doc: &[u8], at: usize) -> Open
         });
     }
     let h = head_of(doc[at]);
-    let n = sized(doc, at, h.width, h.tiny);
-    match n {
-        Counted::Refused(r) => Open::Refused(r),
-        Counted::Is { number, past } => open_kind(doc.len(), at, h.kind, number, past),
-    }
+    open_head(doc, at, h)
 }
