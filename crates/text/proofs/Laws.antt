@@ -2,7 +2,7 @@
 use mathlib.Core.Path.{_≡_, refl, sym, subst, _∙_}
 use mathlib.Core.Bool.{Bool, true}
 use mathlib.Core.List.{List}
-use Prim.Native.Nat.{ℕ, zero, suc, _+_, _-_, _≤_, _<_}
+use Prim.Native.Nat.{ℕ, zero, suc, _+_, _-_, _%_, _≤_, _<_}
 use native.Mathlib.Numerals.{add-one}
 use native.Mathlib.Omega.{arith}
 use borrow.Author.Needs.{needs}
@@ -69,9 +69,9 @@ pub eight-read : (a b : List ℕ) (i x y : ℕ) → x ≡ number (take (length a
     → eqb x y ≡ eqb (number a i 8) (number b i 8)
 eight-read a b i x y ex ey = rw (ex, ey, number-part a i 8, number-part b i 8)
 
-pub eight-equal : (a b : List ℕ) (i n : ℕ) (r : Bool) → r ≡ eqb (number a i 8) (number b i 8) → r ≡ true → ((k : ℕ) → Fits w8 (getD a k 0)) → ((k : ℕ) → Fits w8 (getD b k 0))
-    → n ≤ length a → n ≤ length b → 8 ≤ n - i → Agree a b i → Agree a b (i + 8)
-eight-equal a b i n r e t ga gb ha hb h g =
+pub eight-equal : (a b : List ℕ) (i n stop : ℕ) (r : Bool) → r ≡ eqb (number a i 8) (number b i 8) → r ≡ true → ((k : ℕ) → Fits w8 (getD a k 0)) → ((k : ℕ) → Fits w8 (getD b k 0))
+    → n ≤ length a → n ≤ length b → stop ≤ n → i % 8 ≡ 0 → stop % 8 ≡ 0 → i < stop → Agree a b i → Agree a b (i + 8)
+eight-equal a b i n stop r e t ga gb ha hb u v w h g =
     let yes : T (eqb (number a i 8) (number b i 8)) = subst T (sym t ∙ e) tt in
     same-bytes a b (λ k. ga k .fits) (λ k. gb k .fits) 8 i (omega arith) (omega arith) (eqb→eq (number a i 8) (number b i 8) yes) g
 

@@ -1,4 +1,6 @@
-// The order of two texts.
+// The order of two texts, and a hash of a text.
+pub mod hash;
+
 use json::Order;
 ghost use mathlib.Core.Path.{_≡_};
 ghost use Prim.Native.Nat.{_+_, _≤_};
@@ -32,8 +34,9 @@ fn agree(a: &[u8], b: &[u8]) -> usize
     ensures { λ r. ⌜ (r ≤ length (now (a .entry))) × Agree (now (a .entry)) (now (b .entry)) r ⌝ }
 {
     let n = shorter(a, b);
+    let stop = n - n % 8;
     let mut i = 0;
-    while 8 <= n - i {
+    while i < stop {
         if same_eight(a, b, i) {
             i += 8;
         } else {

@@ -1,4 +1,5 @@
-use Prim.Native.Nat.{_-_, _≤_}
+use mathlib.Core.Path.{_≡_}
+use Prim.Native.Nat.{_-_, _%_, _≤_}
 use Rattle.text.specs.Agreement.{Agree}
 use Rattle.text.proofs.Laws.{answers}
 use Rattle.text.proofs.agree.Statement.{statement}
@@ -9,19 +10,19 @@ use Rattle.text.proofs.same_eight.Reads as same-eight-reads
 use Rattle.text.proofs.shorter.Reads as shorter-reads
 
 abbrev Inv-loop : tie.InvT-loop
-Inv-loop a b n i₀ i = (i ≤ n) × Agree a b i
+Inv-loop a b n stop i₀ i = (i % 8 ≡ 0) × (stop % 8 ≡ 0) × (i ≤ stop) × (stop ≤ n) × Agree a b i
 
 abbrev μ-loop : tie.MeasureT-loop
-μ-loop a b n i₀ i = n - i
+μ-loop a b n stop i₀ i = stop - i
 
 shorter-requires : tie.Need-shorter-requires Inv-loop μ-loop
 shorter-requires c κs = search answers
 
+sub-stop : tie.Need-sub-stop Inv-loop μ-loop
+sub-stop c = search answers
+
 loop-holds : tie.Need-loop-holds Inv-loop μ-loop
 loop-holds c = search answers
-
-sub-loop : tie.Need-sub-loop Inv-loop μ-loop
-sub-loop c = search answers
 
 same-eight-requires : tie.Need-same-eight-requires Inv-loop μ-loop
 same-eight-requires c κs = search answers
@@ -48,8 +49,8 @@ agree-spec =
     Inv-loop
     μ-loop
     shorter-requires
+    sub-stop
     loop-holds
-    sub-loop
     same-eight-requires
     add-i
     loop-less
