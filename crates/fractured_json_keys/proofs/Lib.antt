@@ -1,0 +1,3 @@
+pub mod MetBefore
+pub mod ChainLaws
+pub mod Chained

@@ -1,0 +1,96 @@
+// Chains of keys whose texts fall into one bucket. Half of the links are for buckets, each with the last key passed of its
+// bucket, the other half for keys, each with the key before it in its bucket.
+use crate::pairs::scan;
+use fractured_json_values::limits::MOST_KEYS;
+use fractured_json_values::texts::same;
+use fractured_json_values::texts::text_of;
+ghost use mathlib.Core.Path.{_≡_};
+ghost use Prim.Native.Nat.{_*_, _^_, _≤_, _<_};
+ghost use lib.ListN.{length, getD};
+ghost use Rattle.fractured_json_keys.specs.Chains.{bucketsIn, bucketOf, followed, seenIn, linkedIn};
+
+// How many buckets there are links for.
+fn buckets(links: &[u16]) -> usize
+    ensures { λ r. ⌜ (r ≡ bucketsIn (now (links .entry))) × (2 * r ≤ length (now (links .entry))) × (r ≤ 4096) ⌝ }
+{
+    let half = links.len() / 2;
+    if half < MOST_KEYS {
+        return half;
+    }
+    MOST_KEYS
+}
+
+// The bucket of a text.
+pub fn bucket_of(links: &[u16], t: &[u8]) -> usize
+    ensures { λ r. ⌜ r ≡ bucketOf (now (t .entry)) (bucketsIn (now (links .entry))) ⌝ }
+{
+    let hash = text::hash::hash_of(t) as usize;
+    hash * buckets(links) / 4294967296
+}
+
+// The link at a place, and the word at a place of the table; 0 past the end.
+fn link_at(links: &[u16], i: usize) -> usize
+    ensures { λ r. ⌜ (r ≡ getD (now (links .entry)) i 0) × (r < 2 ^ 16) ⌝ }
+{
+    if i < links.len() {
+        return links[i] as usize;
+    }
+    0
+}
+
+fn word_at(keys: &[u32], i: usize) -> usize
+    ensures { λ r. ⌜ (r ≡ getD (now (keys .entry)) i 0) × (r < 2 ^ 32) ⌝ }
+{
+    if i < keys.len() {
+        return keys[i] as usize;
+    }
+    0
+}
+
+// Whether a text is that of a key on the chain that starts with a link.
+fn follow(doc: &[u8], keys: &[u32], links: &[u16], first: usize, t: &[u8]) -> bool
+    requires { ⌜ first < 2 ^ 16 ⌝ }
+    ensures { λ r. ⌜ r ≡ followed (now (doc .entry)) (now (t .entry)) (now (keys .entry)) (now (links .entry)) (bucketsIn (now (links .entry))) first ⌝ }
+{
+    let n = buckets(links);
+    let mut next = first;
+    let mut left = n;
+    while 0 < left {
+        if next == 0 {
+            return false;
+        }
+        let j = next - 1;
+        let start = word_at(keys, 2 * j);
+        let len = word_at(keys, 2 * j + 1);
+        if same(text_of(doc, start, len), t) {
+            return true;
+        }
+        next = link_at(links, n + j);
+        left -= 1;
+    }
+    false
+}
+
+// Rule 39's test: whether a text of this bucket is one of those in the table's first `count` pairs.
+pub fn was_met(doc: &[u8], keys: &[u32], links: &[u16], count: usize, b: usize, t: &[u8]) -> bool
+    requires { ⌜ b ≡ bucketOf (now t) (bucketsIn (now links)) ⌝ }
+    ensures { λ r. ⌜ r ≡ seenIn (now (doc .entry)) (now (t .entry)) (now (keys .entry)) (now (links .entry)) count ⌝ }
+{
+    if count < buckets(links) {
+        let first = link_at(links, b);
+        return follow(doc, keys, links, first, t);
+    }
+    scan(doc, keys, count, t)
+}
+
+// Puts key `count` at the head of the chain of its bucket.
+pub fn link(links: &mut [u16], count: usize, b: usize)
+    requires { ⌜ b < bucketsIn (now links) ⌝ }
+    ensures { λ _. ⌜ now (links .exit) ≡ linkedIn (now (links .entry)) count b ⌝ }
+{
+    let n = buckets(links);
+    if count < n {
+        links[n + count] = links[b];
+        links[b] = (count + 1) as u16;
+    }
+}
