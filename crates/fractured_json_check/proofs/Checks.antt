@@ -1,55 +1,98 @@
--- One law for each way through `check`.
-use mathlib.Core.Path.{_≡_, sym, ap, _∙_}
-use mathlib.Core.List.{List}
-use Prim.Native.Nat.{ℕ, _^_, _<_}
+-- One law for each way through `check` and the walk from the root.
+use mathlib.Core.Path.{_≡_, refl, sym, ap, _∙_}
+use mathlib.Core.Bool.{Bool, true, false}
+use mathlib.Core.List.{List, []}
+use Prim.Native.Nat.{ℕ, zero, suc, _^_, _<_}
 use native.Mathlib.Omega.{arith}
 use borrow.Author.Needs.{needs}
-use lib.Dec.{eqb-refl}
-use lib.ListN.{length}
+use lib.Dec.{eqb, eqb-refl}
+use lib.ListN.{length, getD, replicate}
 use Rattle.json.specs.Limits.{deepest}
-use Rattle.json.specs.Reading.{Outcome, done, ask, answers, refuses, told}
+use Rattle.json.specs.Reading.{Outcome, halt, done, Asked, ask, answers, refuses, answer, follow, _>>=_, need, told}
 use Rattle.json.specs.declared.Refusal.{Refusal}
 use Rattle.json.specs.declared.Verdict.{Verdict}
 use Rattle.json.proofs.Reading.{then, stops, need-yes, need-no}
-use Rattle.fractured_json_rules.specs.Verdict.{header, value}
-use Rattle.fractured_json_rules.specs.KeyTable.{checked}
-use Rattle.fractured_json_check.specs.Table.{Table, table, keyIn, checkIn, checkedIn, out}
-use Rattle.fractured_json_check.specs.declared.walk.Walk.{Walk}
+use Rattle.fractured_json_rules.specs.Meaning.{Keys}
+use Rattle.fractured_json_rules.specs.Verdict.{header, inTurn, value, checkKey, check}
+use Rattle.fractured_json_rules.specs.KeyTable.{roomOf, stored, Checked, checkedBy, checked}
+use Rattle.fractured_json_values.specs.Opened.{entry}
 use Rattle.fractured_json_values.proofs.Carried.{carry, carry-header}
 use Rattle.fractured_json_values.proofs.Headers.{unlike, header-opens}
-use Rattle.fractured_json_check.proofs.Stored.{checked-in}
+use Rattle.fractured_json_check.specs.Table.{Table, table, keyIn, out, Walked, walkedBy, walked, toldWalk}
+use Rattle.fractured_json_check.specs.declared.walk.Walk.{Walk}
+use Rattle.fractured_json_check.proofs.Stored.{walk-is}
+
+-- ---- the walk from the root, with links that are all 0
+
+all-zero : (n i : ℕ) → _≡_ {A = ℕ} (getD (replicate n 0) i 0) 0
+all-zero zero i = refl
+all-zero (suc n) zero = refl
+all-zero (suc n) (suc i) = all-zero n i
+
+-- one entry of an array is its value
+one-entry : (doc : List ℕ) (s : Table) → inTurn (entry false (keyIn doc) (value (keyIn doc) deepest doc)) 1 3 s ≡ value (keyIn doc) deepest doc 3 s
+unfolding inTurn entry _>>=_ follow
+one-entry doc s = go (value (keyIn doc) deepest doc 3 s)
+  where
+    go : (r : Outcome Table ℕ) → follow r answer ≡ r
+    go (halt n p t) = refl
+    go (done a t) = refl
+
+pub root-walked : (doc words : List ℕ) (n : ℕ) (w : Walk) (after linked : List ℕ)
+    → out w after linked ≡ inTurn (entry false (keyIn doc) (value (keyIn doc) deepest doc)) 1 3 (table 0 words (replicate n 0)) → toldWalk w after ≡ walked doc words
+root-walked doc words n w after linked e = walk-is doc words (replicate n 0) (all-zero n) w after linked (e ∙ one-entry doc _)
+
+pub ruleset root-laws = (root-walked, needs)
+
+-- ---- the check: what the walk over the root value ends with, and 42
+
+closed : ℕ → Walked → Checked
+closed len w = close (w .end)
+  where
+    close : Asked ℕ → Checked
+    close (halt n p u) = record { verdict = refuses n p; count = w .count; words = w .words }
+    close (done a u) = record { verdict = ask (need (eqb a len) 42 a); count = w .count; words = w .words }
+
+closes : (words : List ℕ) (len : ℕ) (r : Outcome Keys ℕ) → checkedBy words (follow r (λ past. need (eqb past len) 42 past)) ≡ closed len (walkedBy words r)
+unfolding closed follow need
+closes words len (halt n p ks) = refl
+closes words len (done a ks) = go (eqb a len)
+  where
+    go : (b : Bool) → checkedBy words (need b 42 a ks) ≡ record { verdict = need b 42 a tt; count = length ks; words = stored ks words }
+    go true = refl
+    go false = refl
 
 -- the header passes, and so the document is short
 pub document-short : (doc : List ℕ) (v : Verdict) → told v ≡ ask (header doc) → v ≡ Verdict.Accepted → length doc < 2 ^ 32
 document-short doc v h e = let o = header-opens doc (sym h ∙ ap told e) in let l = o .short in omega arith
 
-module _ (doc words : List ℕ) where
-  says : {q : Outcome Table (Unit {0})} → checkIn doc (table 0 words) ≡ q → checkedIn q ≡ checked doc words
-  says e = ap checkedIn (sym e) ∙ checked-in doc words
+module _ (doc words : List ℕ) (v : Verdict) (h : told v ≡ ask (header doc)) where
+  pub header-refused : (r : Refusal) → v ≡ Verdict.Refused r → record { verdict = refuses (r .number) (r .place); count = 0; words = words } ≡ checked doc words
+  unfolding check stored
+  header-refused r e = ap (checkedBy words) (sym (stops _ _ _ (carry-header doc [] ∙ ap (carry []) (sym h ∙ ap told e))))
 
-  module _ (v : Verdict) (h : told v ≡ ask (header doc)) where
-    pub header-refused : (r : Refusal) → v ≡ Verdict.Refused r → record { verdict = refuses (r .number) (r .place); count = 0; words = words } ≡ checked doc words
-    unfolding checkIn
-    header-refused r e = says (stops _ _ _ (carry-header doc (table 0 words) ∙ ap (carry (table 0 words)) (sym h ∙ ap told e)))
+  module _ (e : v ≡ Verdict.Accepted) (w : Walk) (after : List ℕ) (ws : toldWalk w after ≡ walked doc words) where
+    goes-on : check (roomOf words) doc [] ≡ (value (checkKey (roomOf words) doc) deepest doc 3 >>= λ past. need (eqb past (length doc)) 42 past) []
+    unfolding check
+    goes-on = then _ _ _ (carry-header doc [] ∙ ap (carry []) (sym h ∙ ap told e))
 
-    module _ (e : v ≡ Verdict.Accepted) (w : Walk) (after : List ℕ) (ws : out w after ≡ value (keyIn doc) deepest doc 3 (table 0 words)) where
-      header-passes : header doc (table 0 words) ≡ done tt (table 0 words)
-      header-passes = carry-header doc (table 0 words) ∙ ap (carry (table 0 words)) (sym h ∙ ap told e)
+    checked-is : checked doc words ≡ closed (length doc) (toldWalk w after)
+    unfolding _>>=_
+    checked-is = ap (checkedBy words) goes-on ∙ (closes words (length doc) (value (checkKey (roomOf words) doc) deepest doc 3 []) ∙ ap (closed (length doc)) (sym ws))
 
-      pub walk-refused : (r : Refusal) (c : ℕ) → w ≡ Walk.Refused r c → record { verdict = refuses (r .number) (r .place); count = c; words = after } ≡ checked doc words
-      unfolding checkIn
-      walk-refused r c q = says (then _ _ _ header-passes ∙ stops _ _ _ (sym ws ∙ ap (λ x. out x after) q))
+    pub walk-refused : (r : Refusal) (c : ℕ) → w ≡ Walk.Refused c r → record { verdict = refuses (r .number) (r .place); count = c; words = after } ≡ checked doc words
+    unfolding closed
+    walk-refused r c q = sym (checked-is ∙ ap (λ x. closed (length doc) (toldWalk x after)) q)
 
-      module _ (a c : ℕ) (q : w ≡ Walk.End a c) where
-        ends : value (keyIn doc) deepest doc 3 (table 0 words) ≡ done a (table c after)
-        ends = sym ws ∙ ap (λ x. out x after) q
+    module _ (a c : ℕ) (q : w ≡ Walk.End c a) where
+      ends : checked doc words ≡ record { verdict = ask (need (eqb a (length doc)) 42 a); count = c; words = after }
+      unfolding closed
+      ends = checked-is ∙ ap (λ x. closed (length doc) (toldWalk x after)) q
 
-        pub bytes-after : (a ≡ length doc → ⊥) → record { verdict = refuses 42 a; count = c; words = after } ≡ checked doc words
-        unfolding checkIn
-        bytes-after n = says (then _ _ _ header-passes ∙ (then _ _ _ ends ∙ need-no _ _ _ _ (unlike n)))
+      pub bytes-after : (a ≡ length doc → ⊥) → record { verdict = refuses 42 a; count = c; words = after } ≡ checked doc words
+      bytes-after n = sym (ends ∙ ap (λ x. record { verdict = x; count = c; words = after }) (need-no _ _ _ _ (unlike n)))
 
-        pub accepts : a ≡ length doc → record { verdict = answers tt; count = c; words = after } ≡ checked doc words
-        unfolding checkIn
-        accepts n = says (then _ _ _ header-passes ∙ (then _ _ _ ends ∙ need-yes _ _ _ _ (rw n (eqb-refl (length doc)))))
+      pub accepts : a ≡ length doc → record { verdict = answers tt; count = c; words = after } ≡ checked doc words
+      accepts n = sym (ends ∙ ap (λ x. record { verdict = x; count = c; words = after }) (need-yes _ _ _ _ (rw n (eqb-refl (length doc)))))
 
 pub ruleset check-laws = (document-short, header-refused, walk-refused, bytes-after, accepts, needs)

@@ -1,4 +1,3 @@
-pub mod MetBefore
 pub mod CheckedKeys
 pub mod CheckWalk
 pub mod Stored

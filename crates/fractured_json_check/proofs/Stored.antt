@@ -1,26 +1,31 @@
--- The check over the number of keys and the words of the lent table is the rules' check over the keys themselves: run side by
--- side, the two say the same, and the words hold the pairs of exactly the keys passed.
+-- The walk over the number of keys, the words of the lent table and the links is the rules' walk over the keys themselves: run
+-- side by side, the two say the same, the words hold the pairs of exactly the keys passed, and the links chain them.
 use mathlib.Core.Path.{_≡_, refl, sym, ap, _∙_}
 use mathlib.Core.Bool.{Bool, true, false, not}
 use mathlib.Core.List.{List, [], _∷_, _++_}
 use Prim.Native.Nat.{ℕ, zero, suc, _+_, _*_, _/_, _≤_, _<_, min}
 use native.Mathlib.Omega.{arith}
 use lib.Dec.{T, ltb, ltb→lt}
-use lib.ListN.{length, drop, length-append}
+use lib.ListN.{length, getD, drop, length-append}
 use Rattle.json.specs.Bytes.{part}
 use Rattle.json.specs.Choose.{choose}
 use Rattle.json.specs.Limits.{mostKeys, deepest}
 use Rattle.json.specs.Reading.{Outcome, halt, done, Reading, Asked, ask, answer, keep, follow, _>>=_, need}
 use Rattle.fractured_json_rules.specs.ByteTables.{Index, inByte, spelled, KeyForm, immediate, backReference, globalIndex, kReserved, keyFormOf}
 use Rattle.fractured_json_rules.specs.Meaning.{Key, Keys}
-use Rattle.fractured_json_rules.specs.Verdict.{header, byteAt, Counted, indexAt, inTurn, member, value, met, newKey, oldKey, checkKeyBy, checkKey, check, verdict}
-use Rattle.fractured_json_rules.specs.KeyTable.{roomOf, pairs, stored, keyOf, checkedBy, checked}
+use Rattle.fractured_json_rules.specs.Verdict.{byteAt, Counted, indexAt, inTurn, member, value, met, newKey, oldKey, checkKeyBy, checkKey}
+use Rattle.fractured_json_rules.specs.KeyTable.{roomOf, pairs, stored, keyOf}
 use Rattle.fractured_json_rules.proofs.KeyTable.{room-words, stored-length}
 use Rattle.fractured_json_rules.proofs.Readers.{kept-is, keep-is}
 use Rattle.fractured_json_values.specs.Heads.{keyHeadOf}
 use Rattle.fractured_json_values.specs.Opened.{Opened, leaf, inside, openedAt}
-use Rattle.fractured_json_check.specs.Table.{Table, table, keysFrom, keysIn, withPair, freshKeyIn, newKeyIn, oldKeyIn, numberedIn, keyHeadIn, keyIn, checkIn, checkedIn}
-use Rattle.fractured_json_values.proofs.Carried.{carry, carry-need, carry-byte, carry-index, carry-opened, carry-header}
+use Rattle.fractured_json_keys.specs.Passed.{keysFrom, keysIn, withPair}
+use Rattle.fractured_json_keys.specs.Chains.{bucketsIn, bucketOf, seenIn, linkedIn}
+use Rattle.fractured_json_keys.proofs.Chained.{Linked, no-links, seen-met, linked-more}
+use Rattle.fractured_json_check.specs.Table.{Table, table, freshKeyIn, newKeyIn, oldKeyIn, numberedIn, keyHeadIn, keyIn, out, walkedBy, walked, toldWalk}
+use Rattle.fractured_json_check.specs.declared.walk.Walk.{Walk}
+use Rattle.fractured_json_check.specs.declared.walk.Walk.the-variants.{End, Refused}
+use Rattle.fractured_json_values.proofs.Carried.{carry, carry-need, carry-byte, carry-index, carry-opened}
 use Rattle.fractured_json_values.proofs.Walks.{onOpened, value-opened}
 
 -- ---- the words that hold the pairs of some keys
@@ -67,12 +72,13 @@ pair-stored (k ∷ ks) (a ∷ b ∷ ws) p n h =
 
 -- ---- side by side
 
-module _ (words : List ℕ) where
-  -- the keys passed, and the table that holds them
+module _ (words doc : List ℕ) where
+  -- the keys passed, the table that holds them, and the links that chain them
   record Tied (ks : Keys) (t : Table) : Type 0 where
     counts : t .count ≡ length ks
     holds : t .words ≡ stored ks words
     roomy : length ks ≤ roomOf words
+    linked : Linked doc (t .words) (t .links) (t .count)
 
   abbrev Alike : {A : Type 0} → Outcome Keys A → Outcome Table A → Type 0
   Alike (halt n p ks) (halt m q t) = (n ≡ m) × (p ≡ q) × Tied ks t
@@ -111,120 +117,130 @@ module _ (words : List ℕ) where
   sim-test true c n p f g ks t e r k = rw (← e) (k tt)
   sim-test false c n p f g ks t e r k = rw (← e) (refl, refl, r)
 
-  module _ (doc : List ℕ) where
-    sim-byte : (o p : ℕ) → Sim (byteAt doc o p) (byteAt doc o p)
-    sim-byte o p ks t r = rw (carry-byte doc o p ks, carry-byte doc o p t) (sim-carry (ask (byteAt doc o p)) ks t r)
+  sim-byte : (o p : ℕ) → Sim (byteAt doc o p) (byteAt doc o p)
+  sim-byte o p ks t r = rw (carry-byte doc o p ks, carry-byte doc o p t) (sim-carry (ask (byteAt doc o p)) ks t r)
 
-    sim-index : (o : ℕ) (x : Index) → Sim (indexAt doc o x) (indexAt doc o x)
-    sim-index o x ks t r = rw (carry-index doc o x ks, carry-index doc o x t) (sim-carry (ask (indexAt doc o x)) ks t r)
+  sim-index : (o : ℕ) (x : Index) → Sim (indexAt doc o x) (indexAt doc o x)
+  sim-index o x ks t r = rw (carry-index doc o x ks, carry-index doc o x t) (sim-carry (ask (indexAt doc o x)) ks t r)
 
-    sim-opened : (o : ℕ) → Sim (openedAt doc o) (openedAt doc o)
-    sim-opened o ks t r = rw (carry-opened doc o ks, carry-opened doc o t) (sim-carry (ask (openedAt doc o)) ks t r)
+  sim-opened : (o : ℕ) → Sim (openedAt doc o) (openedAt doc o)
+  sim-opened o ks t r = rw (carry-opened doc o ks, carry-opened doc o t) (sim-carry (ask (openedAt doc o)) ks t r)
 
-    sim-header : Sim (header doc) (header doc)
-    sim-header ks t r = rw (carry-header doc ks, carry-header doc t) (sim-carry (ask (header doc)) ks t r)
+  -- ---- keys
 
-    -- ---- keys
+  as-long : (ks : Keys) (t : Table) → Tied ks t → length (t .words) ≡ length words
+  as-long ks t r = ap length (r .holds) ∙ stored-length ks words (room-words words (length ks) (r .roomy))
 
-    as-long : (ks : Keys) (t : Table) → Tied ks t → length (t .words) ≡ length words
-    as-long ks t r = ap length (r .holds) ∙ stored-length ks words (room-words words (length ks) (r .roomy))
+  same-room : (ks : Keys) (t : Table) → Tied ks t → roomOf (t .words) ≡ roomOf words
+  unfolding roomOf
+  same-room ks t r = ap (λ n. min mostKeys (n / 2)) (as-long ks t r)
 
-    same-room : (ks : Keys) (t : Table) → Tied ks t → roomOf (t .words) ≡ roomOf words
-    unfolding roomOf
-    same-room ks t r = ap (λ n. min mostKeys (n / 2)) (as-long ks t r)
+  same-keys : (ks : Keys) (t : Table) → Tied ks t → keysIn (t .words) (t .count) ≡ ks
+  unfolding stored roomOf
+  same-keys ks t r =
+      let l = as-long ks t r in
+      let c = r .counts in
+      let y = r .roomy in
+      let m : min (t .count) (length (t .words) / 2) ≡ length ks = omega arith in
+      rw m (rw (r .holds) (keys-held ks (drop (2 * length ks) words)))
 
-    same-keys : (ks : Keys) (t : Table) → Tied ks t → keysIn (t .words) (t .count) ≡ ks
-    unfolding stored roomOf
-    same-keys ks t r =
-        let l = as-long ks t r in
-        let c = r .counts in
-        let y = r .roomy in
-        let m : min (t .count) (length (t .words) / 2) ≡ length ks = omega arith in
-        rw m (rw (r .holds) (keys-held ks (drop (2 * length ks) words)))
+  half : (ks : Keys) (t : Table) → Tied ks t → t .count ≤ length (t .words) / 2
+  unfolding roomOf
+  half ks t r =
+      let l = as-long ks t r in
+      let c = r .counts in
+      let y = r .roomy in
+      omega arith
 
-    one-key-more : (ks : Keys) (t : Table) (n : Counted) → Tied ks t → length ks < roomOf words
-        → Tied (ks ++ (record { start = n .past; len = n .is } ∷ [])) (table (t .count + 1) (withPair (t .words) (t .count) (n .past) (n .is)))
-    one-key-more ks t n r h =
-        let w = room-words words (suc (length ks)) h in
-        record {
-          counts = rw (r .counts, length-append);
-          holds = rw (r .counts, r .holds) (pair-stored ks words (n .past) (n .is) (omega arith));
-          roomy = rw length-append (omega arith);
-        }
+  one-key-more : (ks : Keys) (t : Table) (n : Counted) → Tied ks t → length ks < roomOf words
+      → Tied (ks ++ (record { start = n .past; len = n .is } ∷ []))
+      (table (t .count + 1) (withPair (t .words) (t .count) (n .past) (n .is)) (linkedIn (t .links) (t .count) (bucketOf (part doc (n .past) (n .is)) (bucketsIn (t .links)))))
+  one-key-more ks t n r h =
+      let w = room-words words (suc (length ks)) h in
+      let c = r .counts in
+      let l = as-long ks t r in
+      record {
+        counts = rw (r .counts, length-append);
+        holds = rw (r .counts, r .holds) (pair-stored ks words (n .past) (n .is) (omega arith));
+        roomy = rw length-append (omega arith);
+        linked = linked-more doc (t .words) (t .links) (t .count) (n .past) (n .is) (r .linked) (omega arith);
+      }
 
-    sim-fresh : (o : ℕ) (n : Counted) (ks : Keys) (t : Table) → Tied ks t
-        → Alike ((need (ltb (length ks) (roomOf words)) 40 o >>= λ _. keep (ks ++ (record { start = n .past; len = n .is } ∷ [])) >>= λ _. answer (n .past + n .is)) ks) (freshKeyIn o n t)
-    unfolding freshKeyIn
-    sim-fresh o n ks t r =
-        let e : ltb (length ks) (roomOf words) ≡ ltb (t .count) (roomOf (t .words)) = rw (r .counts, same-room ks t r) in
-        rw (kept-is _ t) (sim-test _ _ _ _ _ _ ks t e r (λ y. rw (keep-is _ _ ks, keep-is _ _ t) (refl, one-key-more ks t n r (ltb→lt _ _ y))))
+  sim-fresh : (o : ℕ) (n : Counted) (ks : Keys) (t : Table) → Tied ks t
+      → Alike ((need (ltb (length ks) (roomOf words)) 40 o >>= λ _. keep (ks ++ (record { start = n .past; len = n .is } ∷ [])) >>= λ _. answer (n .past + n .is)) ks)
+      (freshKeyIn (bucketOf (part doc (n .past) (n .is)) (bucketsIn (t .links))) o n t)
+  unfolding freshKeyIn
+  sim-fresh o n ks t r =
+      let e : ltb (length ks) (roomOf words) ≡ ltb (t .count) (roomOf (t .words)) = rw (r .counts, same-room ks t r) in
+      rw (kept-is _ t) (sim-test _ _ _ _ _ _ ks t e r (λ y. rw (keep-is _ _ ks, keep-is _ _ t) (refl, one-key-more ks t n r (ltb→lt _ _ y))))
 
-    sim-new : (o : ℕ) (n : Counted) → Sim (newKey (roomOf words) doc o n) (newKeyIn doc o n)
-    unfolding newKey newKeyIn
-    sim-new o n ks t r =
-        let e : not (met doc (part doc (n .past) (n .is)) ks) ≡ not (met doc (part doc (n .past) (n .is)) (keysIn (t .words) (t .count))) = ap (λ z. not (met doc (part doc (n .past) (n .is)) z)) (sym (same-keys ks t r)) in
-        sim-test _ _ _ _ _ _ ks t refl r (λ y. rw (kept-is _ ks, kept-is _ t) (sim-test _ _ _ _ _ _ ks t e r (λ z. sim-fresh o n ks t r)))
+  same-test : (x : List ℕ) (ks : Keys) (t : Table) → Tied ks t → met doc x ks ≡ seenIn doc x (t .words) (t .links) (t .count)
+  same-test x ks t r = sym (seen-met doc x (t .words) (t .links) (t .count) (r .linked) (half ks t r) ∙ ap (met doc x) (same-keys ks t r))
 
-    sim-old : (o : ℕ) (n : Counted) → Sim (oldKey o n) (oldKeyIn o n)
-    unfolding oldKey oldKeyIn
-    sim-old o n ks t r =
-        let e : ltb (n .is) (length ks) ≡ ltb (n .is) (t .count) = rw (r .counts) in
-        rw (kept-is _ ks, kept-is _ t) (sim-test _ _ _ _ _ _ ks t e r (λ y. (refl, r)))
+  sim-new : (o : ℕ) (n : Counted) → Sim (newKey (roomOf words) doc o n) (newKeyIn doc o n)
+  unfolding newKey newKeyIn
+  sim-new o n ks t r =
+      let e : not (met doc (part doc (n .past) (n .is)) ks) ≡ not (seenIn doc (part doc (n .past) (n .is)) (t .words) (t .links) (t .count)) = ap not (same-test (part doc (n .past) (n .is)) ks t r) in
+      sim-test _ _ _ _ _ _ ks t refl r (λ y. rw (kept-is _ ks, kept-is _ t) (sim-test _ _ _ _ _ _ ks t e r (λ z. sim-fresh o n ks t r)))
 
-    sim-by : (o : ℕ) (f : KeyForm) → Sim (checkKeyBy (roomOf words) doc o f) (keyHeadIn doc o (keyHeadOf f))
-    unfolding checkKeyBy keyHeadIn numberedIn choose
-    sim-by o (immediate (inByte k)) = sim-then _ _ _ _ (sim-index o (inByte k)) (λ n. sim-new o n)
-    sim-by o (immediate spelled) = sim-then _ _ _ _ (sim-index o spelled) (λ n. sim-new o n)
-    sim-by o (backReference (inByte k)) = sim-then _ _ _ _ (sim-index o (inByte k)) (λ n. sim-old o n)
-    sim-by o (backReference spelled) = sim-then _ _ _ _ (sim-index o spelled) (λ n. sim-old o n)
-    sim-by o (globalIndex (inByte k)) = sim-then _ _ _ _ (sim-index o (inByte k)) (λ n ks t r. (refl, refl, r))
-    sim-by o (globalIndex spelled) = sim-then _ _ _ _ (sim-index o spelled) (λ n ks t r. (refl, refl, r))
-    sim-by o kReserved = λ ks t r. (refl, refl, r)
+  sim-old : (o : ℕ) (n : Counted) → Sim (oldKey o n) (oldKeyIn o n)
+  unfolding oldKey oldKeyIn
+  sim-old o n ks t r =
+      let e : ltb (n .is) (length ks) ≡ ltb (n .is) (t .count) = rw (r .counts) in
+      rw (kept-is _ ks, kept-is _ t) (sim-test _ _ _ _ _ _ ks t e r (λ y. (refl, r)))
 
-    sim-key : (o : ℕ) → Sim (checkKey (roomOf words) doc o) (keyIn doc o)
-    unfolding checkKey keyIn
-    sim-key o = sim-then _ _ _ _ (sim-byte o o) (λ b. sim-by o (keyFormOf b))
+  sim-by : (o : ℕ) (f : KeyForm) → Sim (checkKeyBy (roomOf words) doc o f) (keyHeadIn doc o (keyHeadOf f))
+  unfolding checkKeyBy keyHeadIn numberedIn choose
+  sim-by o (immediate (inByte k)) = sim-then _ _ _ _ (sim-index o (inByte k)) (λ n. sim-new o n)
+  sim-by o (immediate spelled) = sim-then _ _ _ _ (sim-index o spelled) (λ n. sim-new o n)
+  sim-by o (backReference (inByte k)) = sim-then _ _ _ _ (sim-index o (inByte k)) (λ n. sim-old o n)
+  sim-by o (backReference spelled) = sim-then _ _ _ _ (sim-index o spelled) (λ n. sim-old o n)
+  sim-by o (globalIndex (inByte k)) = sim-then _ _ _ _ (sim-index o (inByte k)) (λ n ks t r. (refl, refl, r))
+  sim-by o (globalIndex spelled) = sim-then _ _ _ _ (sim-index o spelled) (λ n ks t r. (refl, refl, r))
+  sim-by o kReserved = λ ks t r. (refl, refl, r)
 
-    -- ---- the walk
+  sim-key : (o : ℕ) → Sim (checkKey (roomOf words) doc o) (keyIn doc o)
+  unfolding checkKey keyIn
+  sim-key o = sim-then _ _ _ _ (sim-byte o o) (λ b. sim-by o (keyFormOf b))
 
-    sim-turns : (f : ℕ → Reading Keys ℕ) (g : ℕ → Reading Table ℕ) → ((o : ℕ) → Sim (f o) (g o)) → (n o : ℕ) → Sim (inTurn f n o) (inTurn g n o)
-    unfolding inTurn
-    sim-turns f g h zero o = λ ks t r. (refl, r)
-    sim-turns f g h (suc n) o = sim-then _ _ _ _ (h o) (λ next. sim-turns f g h n next)
+  -- ---- the walk
 
-    sim-member : (f : ℕ → Reading Keys ℕ) (g : ℕ → Reading Table ℕ) → ((o : ℕ) → Sim (f o) (g o)) → (o : ℕ) → Sim (member (checkKey (roomOf words) doc) f o) (member (keyIn doc) g o)
-    unfolding member
-    sim-member f g h o = sim-then _ _ _ _ (sim-key o) (λ v. h v)
+  sim-turns : (f : ℕ → Reading Keys ℕ) (g : ℕ → Reading Table ℕ) → ((o : ℕ) → Sim (f o) (g o)) → (n o : ℕ) → Sim (inTurn f n o) (inTurn g n o)
+  unfolding inTurn
+  sim-turns f g h zero o = λ ks t r. (refl, r)
+  sim-turns f g h (suc n) o = sim-then _ _ _ _ (h o) (λ next. sim-turns f g h n next)
 
-    sim-on : (array object : ℕ → ℕ → Reading Keys ℕ) (array' object' : ℕ → ℕ → Reading Table ℕ) → ((n at : ℕ) → Sim (array n at) (array' n at)) → ((n at : ℕ) → Sim (object n at) (object' n at))
-        → (x : Opened) → Sim (onOpened array object x) (onOpened array' object' x)
-    sim-on array object array' object' h k (leaf e) = λ ks t r. (refl, r)
-    sim-on array object array' object' h k (inside true n at) = k n at
-    sim-on array object array' object' h k (inside false n at) = h n at
+  sim-member : (f : ℕ → Reading Keys ℕ) (g : ℕ → Reading Table ℕ) → ((o : ℕ) → Sim (f o) (g o)) → (o : ℕ) → Sim (member (checkKey (roomOf words) doc) f o) (member (keyIn doc) g o)
+  unfolding member
+  sim-member f g h o = sim-then _ _ _ _ (sim-key o) (λ v. h v)
 
-    sim-value : (l o : ℕ) → Sim (value (checkKey (roomOf words) doc) l doc o) (value (keyIn doc) l doc o)
-    unfolding value
-    sim-value zero o ks t r =
-        alike-by (value-opened doc o _ _ ks) (value-opened doc o _ _ t)
-        (sim-then _ _ _ _ (sim-opened o) (sim-on _ _ _ _ (λ n at ks t r. (refl, refl, r)) (λ n at ks t r. (refl, refl, r))) ks t r)
-    sim-value (suc l) o ks t r =
-        alike-by (value-opened doc o _ _ ks) (value-opened doc o _ _ t)
-        (sim-then _ _ _ _ (sim-opened o) (sim-on _ _ _ _ (sim-turns _ _ (sim-value l)) (sim-turns _ _ (sim-member _ _ (sim-value l)))) ks t r)
+  sim-on : (array object : ℕ → ℕ → Reading Keys ℕ) (array' object' : ℕ → ℕ → Reading Table ℕ) → ((n at : ℕ) → Sim (array n at) (array' n at)) → ((n at : ℕ) → Sim (object n at) (object' n at))
+      → (x : Opened) → Sim (onOpened array object x) (onOpened array' object' x)
+  sim-on array object array' object' h k (leaf e) = λ ks t r. (refl, r)
+  sim-on array object array' object' h k (inside true n at) = k n at
+  sim-on array object array' object' h k (inside false n at) = h n at
 
-    sim-check : Sim (check (roomOf words) doc) (checkIn doc)
-    unfolding check checkIn
-    sim-check = sim-then _ _ _ _ sim-header λ _. sim-then _ _ _ _ (sim-value deepest 3) λ past. sim-need _ _ _
+  sim-value : (l o : ℕ) → Sim (value (checkKey (roomOf words) doc) l doc o) (value (keyIn doc) l doc o)
+  unfolding value
+  sim-value zero o ks t r =
+      alike-by (value-opened doc o _ _ ks) (value-opened doc o _ _ t)
+      (sim-then _ _ _ _ (sim-opened o) (sim-on _ _ _ _ (λ n at ks t r. (refl, refl, r)) (λ n at ks t r. (refl, refl, r))) ks t r)
+  sim-value (suc l) o ks t r =
+      alike-by (value-opened doc o _ _ ks) (value-opened doc o _ _ t)
+      (sim-then _ _ _ _ (sim-opened o) (sim-on _ _ _ _ (sim-turns _ _ (sim-value l)) (sim-turns _ _ (sim-member _ _ (sim-value l)))) ks t r)
 
-  tied-start : Tied [] (table 0 words)
-  unfolding stored
-  tied-start = record { counts = refl; holds = refl; roomy = omega arith }
+  same-walk : (r : Outcome Keys ℕ) (w : Walk) (after links : List ℕ) → Alike r (out w after links) → toldWalk w after ≡ walkedBy words r
+  same-walk (halt n p ks) (Refused c q) after links h = rw (h .0, h .1, h .2 .counts, h .2 .holds)
+  same-walk (halt n p ks) (End c a) after links h = absurd h
+  same-walk (done a ks) (Refused c q) after links h = absurd h
+  same-walk (done a ks) (End c b) after links h = rw (h .0, h .1 .counts, h .1 .holds)
 
-  same-checked : (r : Outcome Keys (Unit {0})) (q : Outcome Table (Unit {0})) → Alike r q → checkedIn q ≡ checkedBy words r
-  same-checked (halt n p ks) (halt m o t) h = rw (h .0, h .1, h .2 .counts, h .2 .holds)
-  same-checked (halt n p ks) (done b t) h = absurd h
-  same-checked (done a ks) (halt m o t) h = absurd h
-  same-checked (done a ks) (done b t) h = rw (h .0, h .1 .counts, h .1 .holds)
-
--- the check over the table gives the rules' verdict, number of pairs and words
-pub checked-in : (doc words : List ℕ) → checkedIn (checkIn doc (table 0 words)) ≡ checked doc words
-checked-in doc words = same-checked words (verdict (roomOf words) doc) (checkIn doc (table 0 words)) (sim-check words doc [] (table 0 words) (tied-start words))
+-- the walk over the table from the root on gives the rules' end, number of pairs and words
+pub walk-is : (doc words links : List ℕ) → ((i : ℕ) → getD links i 0 ≡ 0) → (w : Walk) (after linked : List ℕ) → out w after linked ≡ value (keyIn doc) deepest doc 3 (table 0 words links)
+    → toldWalk w after ≡ walked doc words
+unfolding stored
+walk-is doc words links z w after linked e =
+    same-walk words doc (value (checkKey (roomOf words) doc) deepest doc 3 []) w after linked (rw e (sim-value words doc deepest 3 [] (table 0 words links) start))
+  where
+    start : Tied words doc [] (table 0 words links)
+    start = record { counts = refl; holds = refl; roomy = omega arith; linked = no-links doc words links z }

@@ -1,58 +1,50 @@
--- The check as the code makes it, with the number of keys passed and the words of the lent table as its state. proofs/Stored.antt
--- shows that it is the rules' check, which keeps the keys themselves.
-use Prim.Native.Nat.{ℕ, zero, suc, _+_, _*_, _/_, min}
-use mathlib.Core.Bool.{not}
-use mathlib.Core.List.{List, [], _∷_}
+-- The check as the code makes it: its state is the number of keys passed, the words of the lent table and the links of the
+-- chains. proofs/Stored.antt shows that it is the rules' check, which keeps the keys themselves.
+use Prim.Native.Nat.{ℕ, _+_}
+use mathlib.Core.Bool.{Bool, true, false, not}
+use mathlib.Core.List.{List, []}
 use lib.Dec.{ltb, leb, eqb}
-use lib.ListN.{length, set}
+use lib.ListN.{length}
 use Rattle.json.specs.Bytes.{part}
 use Rattle.json.specs.Choose.{choose}
 use Rattle.json.specs.Limits.{deepest}
-use Rattle.json.specs.Reading.{Outcome, halt, done, Reading, answers, refuses, answer, refuse, kept, keep, _>>=_, _>>_, need}
+use Rattle.json.specs.Reading.{Outcome, halt, done, Reading, Asked, answers, refuses, answer, refuse, kept, keep, _>>=_, _>>_, need}
 use Rattle.fractured_json_rules.specs.ByteTables.{keyFormOf}
 use Rattle.fractured_json_rules.specs.Meaning.{Keys}
-use Rattle.fractured_json_rules.specs.Verdict.{header, byteAt, Counted, indexAt, value, met}
-use Rattle.fractured_json_rules.specs.KeyTable.{roomOf, keyOf}
-use Rattle.fractured_json_rules.specs.KeyTable as KeyTable
+use Rattle.fractured_json_rules.specs.Verdict.{byteAt, Counted, indexAt, value, checkKey}
+use Rattle.fractured_json_rules.specs.KeyTable.{roomOf, stored}
 use Rattle.fractured_json_values.specs.Heads.{keyHeadOf, indexBy}
 use Rattle.fractured_json_values.specs.declared.types.KeyHead.{KeyHead}
+use Rattle.fractured_json_keys.specs.Passed.{withPair}
+use Rattle.fractured_json_keys.specs.Chains.{bucketsIn, bucketOf, seenIn, linkedIn}
 use Rattle.fractured_json_check.specs.declared.walk.Walk.{Walk}
 use Rattle.fractured_json_check.specs.declared.walk.Walk.the-variants.{End, Refused}
 
 pub record Table : Type 0 where
   pub count : ℕ
   pub words : List ℕ
+  pub links : List ℕ
 
-abbrev pub table : ℕ → List ℕ → Table
-table c ws = record { count = c; words = ws }
+abbrev pub table : ℕ → List ℕ → List ℕ → Table
+table c ws ls = record { count = c; words = ws; links = ls }
 
--- n keys of the table from key j on
-unfoldable pub keysFrom : List ℕ → ℕ → ℕ → Keys
-keysFrom words j zero = []
-keysFrom words j (suc n) = keyOf words j ∷ keysFrom words (j + 1) n
+-- ---- keys
 
--- the keys passed, as many as the words can hold
-abbrev pub keysIn : List ℕ → ℕ → Keys
-keysIn words count = keysFrom words 0 (min count (length words / 2))
-
--- the words with the pair of key j
-unfoldable pub withPair : List ℕ → ℕ → ℕ → ℕ → List ℕ
-withPair words j start len = set (set words (2 * j) start) (2 * j + 1) len
-
--- a key whose text is fresh, if there is room for it: once passed, it has its pair and its number
-unfoldable pub freshKeyIn : ℕ → Counted → Reading Table ℕ
-freshKeyIn o n = do
+-- a key whose text is fresh and falls into the bucket b, if there is room for it: once passed, it has its pair, its link and its
+-- number
+unfoldable pub freshKeyIn : ℕ → ℕ → Counted → Reading Table ℕ
+freshKeyIn b o n = do
   t ← kept
   need (ltb (t .count) (roomOf (t .words))) 40 o
-  keep (table (t .count + 1) (withPair (t .words) (t .count) (n .past) (n .is)))
+  keep (table (t .count + 1) (withPair (t .words) (t .count) (n .past) (n .is)) (linkedIn (t .links) (t .count) b))
   answer (n .past + n .is)
 
 unfoldable pub newKeyIn : List ℕ → ℕ → Counted → Reading Table ℕ
 newKeyIn doc o n = do
   need (leb (n .past + n .is) (length doc)) 35 o
   t ← kept
-  need (not (met doc (part doc (n .past) (n .is)) (keysIn (t .words) (t .count)))) 39 o
-  freshKeyIn o n
+  need (not (seenIn doc (part doc (n .past) (n .is)) (t .words) (t .links) (t .count))) 39 o
+  freshKeyIn (bucketOf (part doc (n .past) (n .is)) (bucketsIn (t .links))) o n
 
 unfoldable pub oldKeyIn : ℕ → Counted → Reading Table ℕ
 oldKeyIn o n = do
@@ -72,18 +64,33 @@ keyIn doc o = do
   b ← byteAt doc o o
   keyHeadIn doc o (keyHeadOf (keyFormOf b))
 
--- the whole check
-unfoldable pub checkIn : List ℕ → Reading Table (Unit {0})
-checkIn doc = do
-  header doc
-  past ← value (keyIn doc) deepest doc 3
-  need (eqb past (length doc)) 42 past
+-- where the value of an entry starts: in an object behind its key
+unfoldable pub keyedIn : Bool → List ℕ → ℕ → Reading Table ℕ
+keyedIn true doc o = keyIn doc o
+keyedIn false doc o = answer o
 
-abbrev pub checkedIn : Outcome Table (Unit {0}) → KeyTable.Checked
-checkedIn (halt number place t) = record { verdict = refuses number place; count = t .count; words = t .words }
-checkedIn (done u t) = record { verdict = answers u; count = t .count; words = t .words }
+-- what the walk answers, with the words and links that it left
+abbrev pub out : Walk → List ℕ → List ℕ → Outcome Table ℕ
+out (End count at) words links = done at (table count words links)
+out (Refused count r) words links = halt (r .number) (r .place) (table count words links)
 
--- what the walk answers, with the words that it left
-abbrev pub out : Walk → List ℕ → Outcome Table ℕ
-out (End at count) words = done at (table count words)
-out (Refused r count) words = halt (r .number) (r .place) (table count words)
+-- ---- the walk over the root value
+
+-- how it ends, with the number of pairs and the words of the lent table
+pub record Walked : Type 0 where
+  pub end : Asked ℕ
+  pub count : ℕ
+  pub words : List ℕ
+
+abbrev pub walkedBy : List ℕ → Outcome Keys ℕ → Walked
+walkedBy words (halt number place ks) = record { end = refuses number place; count = length ks; words = stored ks words }
+walkedBy words (done at ks) = record { end = answers at; count = length ks; words = stored ks words }
+
+-- by the rules
+abbrev pub walked : List ℕ → List ℕ → Walked
+walked doc words = walkedBy words (value (checkKey (roomOf words) doc) deepest doc 3 [])
+
+-- by the code
+abbrev pub toldWalk : Walk → List ℕ → Walked
+toldWalk (End count at) words = record { end = answers at; count = count; words = words }
+toldWalk (Refused count r) words = record { end = refuses (r .number) (r .place); count = count; words = words }

@@ -1,45 +1,49 @@
 // A key as the check reads it: an immediate key has its pair in the lent table, and its number, before its value is read.
-use crate::repeats::was_met;
 use crate::walk::Walk;
+use fractured_json_keys::chains::bucket_of;
+use fractured_json_keys::chains::link;
+use fractured_json_keys::chains::was_met;
+use fractured_json_keys::pairs::store;
 use fractured_json_values::index::index_at;
 use fractured_json_values::texts::room_of;
-use fractured_json_values::texts::text_of;
 use fractured_json_values::types::key_head;
 use fractured_json_values::values::Counted;
 use json::Refusal;
 ghost use mathlib.Core.Path.{_≡_};
-ghost use Prim.Native.Nat.{_+_, _/_, _^_, _≤_, _<_};
+ghost use Prim.Native.Nat.{_+_, _^_, _≤_, _<_};
 ghost use lib.ListN.{length};
 ghost use Rattle.fractured_json_rules.specs.Verdict.{counted};
-ghost use Rattle.fractured_json_check.specs.Table.{table, withPair, freshKeyIn, newKeyIn, numberedIn, keyIn, out};
+ghost use Rattle.fractured_json_check.specs.Known.{Known};
+ghost use Rattle.fractured_json_check.specs.Table.{table, freshKeyIn, newKeyIn, numberedIn, keyIn, out};
 
-// Stores the pair of key `count`.
-fn store(keys: &mut [u32], count: usize, start: usize, len: usize)
-    requires { ⌜ (count < length (now keys) / 2) × (start < 2 ^ 32) × (len < 2 ^ 32) ⌝ }
-    ensures { λ _. ⌜ now (keys .exit) ≡ withPair (now (keys .entry)) count start len ⌝ }
-{
-    keys[2 * count] = start as u32;
-    keys[2 * count + 1] = len as u32;
-}
-
-// An immediate key whose text of `number` bytes at `past` is fresh: once passed, it has its pair and its number.
-fn fresh_key(keys: &mut [u32], count: usize, at: usize, number: usize, past: usize) -> Walk
+// An immediate key whose text of `number` bytes at `past` is fresh and falls into the bucket `b`: once passed, it has its pair,
+// its link and its number.
+fn fresh_key(
+    keys: &mut [u32],
+    links: &mut [u16],
+    b: usize,
+    count: usize,
+    at: usize,
+    number: usize,
+    past: usize,
+) -> Walk
     requires { ⌜ past + number < 2 ^ 32 ⌝ }
-    ensures { λ r. ⌜ out r (now (keys .exit)) ≡ freshKeyIn at (counted number past) (table count (now (keys .entry))) ⌝ }
+    ensures { λ r. ⌜ out r (now (keys .exit)) (now (links .exit)) ≡ freshKeyIn b at (counted number past) (table count (now (keys .entry)) (now (links .entry))) ⌝ }
 {
     if room_of(keys) <= count {
         return Walk::Refused {
+            count,
             refusal: Refusal {
                 number: 40,
                 place: at,
             },
-            count,
         };
     }
     store(keys, count, past, number);
+    link(links, count, b);
     Walk::End {
-        at: past + number,
         count: count + 1,
+        at: past + number,
     }
 }
 
@@ -47,39 +51,42 @@ fn fresh_key(keys: &mut [u32], count: usize, at: usize, number: usize, past: usi
 fn new_key(
     doc: &[u8],
     keys: &mut [u32],
+    links: &mut [u16],
     count: usize,
     at: usize,
     number: usize,
     past: usize,
 ) -> Walk
     requires { ⌜ (length (now doc) < 2 ^ 32) × (past ≤ length (now doc)) ⌝ }
-    ensures { λ r. ⌜ out r (now (keys .exit)) ≡ newKeyIn (now (doc .entry)) at (counted number past) (table count (now (keys .entry))) ⌝ }
+    ensures { λ r. ⌜ out r (now (keys .exit)) (now (links .exit)) ≡ newKeyIn (now (doc .entry)) at (counted number past) (table count (now (keys .entry)) (now (links .entry))) ⌝ }
 {
     if doc.len() - past < number {
         return Walk::Refused {
+            count,
             refusal: Refusal {
                 number: 35,
                 place: at,
             },
-            count,
         };
     }
-    if was_met(doc, keys, count, text_of(doc, past, number)) {
+    let b = bucket_of(doc, links, past, number);
+    if was_met(doc, keys, links, count, b, past, number) {
         return Walk::Refused {
+            count,
             refusal: Refusal {
                 number: 39,
                 place: at,
             },
-            count,
         };
     }
-    fresh_key(keys, count, at, number, past)
+    fresh_key(keys, links, b, count, at, number, past)
 }
 
 // A key by its kind, once its number has been read.
 fn numbered(
     doc: &[u8],
     keys: &mut [u32],
+    links: &mut [u16],
     count: usize,
     at: usize,
     kind: u8,
@@ -87,60 +94,83 @@ fn numbered(
     past: usize,
 ) -> Walk
     requires { ⌜ (length (now doc) < 2 ^ 32) × (past ≤ length (now doc)) ⌝ }
-    ensures { λ r. ⌜ out r (now (keys .exit)) ≡ numberedIn (now (doc .entry)) at kind (counted number past) (table count (now (keys .entry))) ⌝ }
+    ensures { λ r. ⌜ out r (now (keys .exit)) (now (links .exit)) ≡ numberedIn (now (doc .entry)) at kind (counted number past) (table count (now (keys .entry)) (now (links .entry))) ⌝ }
 {
     if kind == 0 {
-        return new_key(doc, keys, count, at, number, past);
+        return new_key(doc, keys, links, count, at, number, past);
     }
     if kind == 1 {
         if number < count {
-            return Walk::End { at: past, count };
+            return Walk::End { count, at: past };
         }
         return Walk::Refused {
+            count,
             refusal: Refusal {
                 number: 38,
                 place: at,
             },
-            count,
         };
     }
     Walk::Refused {
+        count,
         refusal: Refusal {
             number: 38,
             place: at,
         },
-        count,
     }
 }
 
 // The key at a place, as the check reads it: where its value starts, and the number of keys passed.
-pub(crate) fn check_key(doc: &[u8], keys: &mut [u32], count: usize, at: usize) -> Walk
+pub(crate) fn check_key(
+    doc: &[u8],
+    keys: &mut [u32],
+    links: &mut [u16],
+    count: usize,
+    at: usize,
+) -> Walk
     requires { ⌜ length (now doc) < 2 ^ 32 ⌝ }
-    ensures { λ r. ⌜ out r (now (keys .exit)) ≡ keyIn (now (doc .entry)) at (table count (now (keys .entry))) ⌝ }
+    ensures { λ r. ⌜ out r (now (keys .exit)) (now (links .exit)) ≡ keyIn (now (doc .entry)) at (table count (now (keys .entry)) (now (links .entry))) ⌝ }
 {
     if doc.len() <= at {
         return Walk::Refused {
+            count,
             refusal: Refusal {
                 number: 35,
                 place: at,
             },
-            count,
         };
     }
     let h = key_head(doc[at]);
     let kind = h.kind;
     if kind == 3 {
         return Walk::Refused {
+            count,
             refusal: Refusal {
                 number: 36,
                 place: at,
             },
-            count,
         };
     }
     let n = index_at(doc, at, h.spelled, h.number);
     match n {
-        Counted::Refused(refusal) => Walk::Refused { refusal, count },
-        Counted::Is { number, past } => numbered(doc, keys, count, at, kind, number, past),
+        Counted::Refused(refusal) => Walk::Refused { count, refusal },
+        Counted::Is { number, past } => numbered(doc, keys, links, count, at, kind, number, past),
     }
+}
+
+// Whether the key at a place is a back reference in one byte that is found: the most frequent key, told by a branch of its own
+// and not by an answer in memory.
+pub(crate) fn is_known(doc: &[u8], count: usize, at: usize) -> bool
+    ensures { λ r. ⌜ Known (now (doc .entry)) count at r ⌝ }
+{
+    if doc.len() <= at {
+        return false;
+    }
+    let h = key_head(doc[at]);
+    if h.kind == 1 {
+        if h.spelled == 0 {
+            return h.number < count;
+        }
+    }
+    false
 }

@@ -1,12 +1,11 @@
 // The check of a Fractured JSON document with a lent key table, proved equal to its rule in `fractured_json_rules`.
 pub mod answers;
 mod keys;
-mod repeats;
+mod start;
 mod walk;
 
 use answers::Checked;
 use fractured_json_values::header::read_header;
-use fractured_json_values::limits::DEEPEST;
 use json::Refusal;
 use json::Verdict;
 use walk::Walk;
@@ -26,13 +25,13 @@ pub fn check(doc: &[u8], keys: &mut [u32]) -> Checked
             count: 0,
         },
         Verdict::Accepted => {
-            let w = walk::value(doc, keys, 0, 3, DEEPEST);
+            let w = start::walk_root(doc, keys);
             match w {
-                Walk::Refused { refusal, count } => Checked {
+                Walk::Refused { count, refusal } => Checked {
                     verdict: Verdict::Refused(refusal),
                     count,
                 },
-                Walk::End { at, count } => {
+                Walk::End { count, at } => {
                     if at == doc.len() {
                         return Checked {
                             verdict: Verdict::Accepted,

@@ -24,7 +24,7 @@ module _ (doc words : List ℕ) (count at levels : ℕ) (o : Open) (os : toldOpe
   pub open-halts : (r : Refusal) → o ≡ Open.Refused r → refuses (r .number) (r .place) ≡ ask (value (passKey doc words count) levels doc at)
   open-halts r h = sym (value-halts (passKey doc words count) doc at tt levels _ _ (sym os ∙ ap toldOpen h))
 
-  module _ (b : Bool) (n p : ℕ) (h : o ≡ Open.Container b n p) where
+  module _ (b : Bool) (n p : ℕ) (h : o ≡ Open.Container p n b) where
     pub too-deep : levels ≡ 0 → refuses 41 at ≡ ask (value (passKey doc words count) levels doc at)
     too-deep z = sym (value-deep (passKey doc words count) doc at tt levels b n p (sym os ∙ ap toldOpen h) z)
 

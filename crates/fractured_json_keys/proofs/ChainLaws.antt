@@ -31,17 +31,17 @@ buckets-most links h = omega arith
 
 pub ruleset buckets-laws = (buckets-half, buckets-most, needs)
 
-module _ (t : List ℕ) (h n : ℕ) (e : h ≡ hashOf t) where
+module _ (t x : List ℕ) (h n : ℕ) (e : h ≡ hashOf x) (same : x ≡ t) where
   pub product-fits : n ≤ 4_096 → Fits w64 (h * n)
   product-fits l =
-      let s = hash-small t in
+      let s = hash-small x in
       let b : h ≤ 4_294_967_296 = omega arith in
       let p : h * n ≤ 4_294_967_296 * 4_096 = mul-le-mul b l in
       record { fits = omega arith }
 
   pub bucket-is : (links : List ℕ) → n ≡ bucketsIn links → h * n / 4_294_967_296 ≡ bucketOf t (bucketsIn links)
   unfolding bucketOf
-  bucket-is links q = rw (e, q)
+  bucket-is links q = rw (e, q, same)
 
 pub ruleset bucket-laws = (product-fits, bucket-is, needs)
 
@@ -103,27 +103,37 @@ pub ruleset follow-laws = (chain-begins, no-more, chain-ends, key-found, key-pas
 
 -- ---- rule 39's test
 
-module _ (doc t words links : List ℕ) (count n : ℕ) (e : n ≡ bucketsIn links) where
-  pub by-chain : count < n → (b link : ℕ) (r : Bool) → b ≡ bucketOf t (bucketsIn links) → link ≡ getD links b 0 → r ≡ followed doc t words links (bucketsIn links) link
+module _ (doc t x words links : List ℕ) (same : x ≡ t) (count n : ℕ) (e : n ≡ bucketsIn links) where
+  pub by-chain : count < n → (b link : ℕ) (r : Bool) → b ≡ bucketOf t (bucketsIn links) → link ≡ getD links b 0 → r ≡ followed doc x words links (bucketsIn links) link
       → r ≡ seenIn doc t words links count
   unfolding seenIn choose
-  by-chain h b link r p q k = let l : count < bucketsIn links = omega arith in rw (lt-ltb count (bucketsIn links) l) (rw (q, p) at k)
+  by-chain h b link r p q k = let l : count < bucketsIn links = omega arith in rw (lt-ltb count (bucketsIn links) l) (rw (q, p, same) at k)
 
-  pub by-scan : n ≤ count → (r : Bool) → r ≡ met doc t (keysIn words count) → r ≡ seenIn doc t words links count
+  pub by-scan : n ≤ count → (r : Bool) → r ≡ met doc x (keysIn words count) → r ≡ seenIn doc t words links count
   unfolding seenIn choose
-  by-scan h r k = let l : bucketsIn links ≤ count = omega arith in rw (le-ltb count (bucketsIn links) l) k
+  by-scan h r k = let l : bucketsIn links ≤ count = omega arith in rw (le-ltb count (bucketsIn links) l) (rw same at k)
 
 pub ruleset met-before-laws = (by-chain, by-scan, needs)
 
 -- ---- a link more
 
 module _ (links : List ℕ) (count b n : ℕ) (e : n ≡ bucketsIn links) where
-  pub link-stored : count < n → set (set links (n + count) (getD links b 0)) b (count + 1) ≡ linkedIn links count b
+  pub link-stored : count < n → b < n → set (set links (n + count) (getD links b 0)) b (count + 1) ≡ linkedIn links count b
   unfolding linkedIn choose
-  link-stored h = let l : count < bucketsIn links = omega arith in rw (lt-ltb count (bucketsIn links) l, e)
+  link-stored h k =
+      let l : count < bucketsIn links = omega arith in
+      let m : b < bucketsIn links = omega arith in
+      rw (lt-ltb count (bucketsIn links) l, lt-ltb b (bucketsIn links) m, e)
+
+  pub no-bucket : count < n → n ≤ b → links ≡ linkedIn links count b
+  unfolding linkedIn choose
+  no-bucket h k =
+      let l : count < bucketsIn links = omega arith in
+      let m : bucketsIn links ≤ b = omega arith in
+      rw (lt-ltb count (bucketsIn links) l, le-ltb b (bucketsIn links) m)
 
   pub links-full : n ≤ count → links ≡ linkedIn links count b
   unfolding linkedIn choose
   links-full h = let l : bucketsIn links ≤ count = omega arith in rw (le-ltb count (bucketsIn links) l)
 
-pub ruleset link-laws = (link-stored, links-full, needs)
+pub ruleset link-laws = (link-stored, no-bucket, links-full, needs)

@@ -250,11 +250,12 @@ module _ (doc words links : List ℕ) (m count p n : ℕ) (chains : Chains doc w
 
 buckets-same : (links : List ℕ) (count b : ℕ) → bucketsIn (linkedIn links count b) ≡ bucketsIn links
 unfolding bucketsIn linkedIn choose
-buckets-same links count b = ap (λ n. min mostKeys (n / 2)) (go (ltb count (min mostKeys (length links / 2))))
+buckets-same links count b = ap (λ n. min mostKeys (n / 2)) (go (ltb count (min mostKeys (length links / 2))) (ltb b (min mostKeys (length links / 2))))
   where
-    go : (e : Bool) → length (choose e (set (set links (min mostKeys (length links / 2) + count) (getD links b 0)) b (count + 1)) links) ≡ length links
-    go true = simp length-set
-    go false = refl
+    go : (e d : Bool) → length (choose e (choose d (set (set links (min mostKeys (length links / 2) + count) (getD links b 0)) b (count + 1)) links) links) ≡ length links
+    go true true = simp length-set
+    go true false = refl
+    go false d = refl
 
 half-links : (links : List ℕ) → 2 * bucketsIn links ≤ length links
 unfolding bucketsIn
@@ -268,4 +269,6 @@ linked-more doc words links count p n linked h =
     rw (buckets-same links count (bucketOf (part doc p n) (bucketsIn links))) (λ l. go (omega arith))
   where
     go : count < bucketsIn links → Chains doc (withPair words count p n) (linkedIn links count (bucketOf (part doc p n) (bucketsIn links))) (bucketsIn links) (count + 1)
-    go l = rw (lt-ltb count (bucketsIn links) l) (chains-more doc words links (bucketsIn links) count p n (linked (omega arith)) l (half-links links) h)
+    go l =
+        let k = bucket-below (part doc p n) (bucketsIn links) (omega arith) in
+        rw (lt-ltb count (bucketsIn links) l, lt-ltb (bucketOf (part doc p n) (bucketsIn links)) (bucketsIn links) k) (chains-more doc words links (bucketsIn links) count p n (linked (omega arith)) l (half-links links) h)

@@ -35,6 +35,7 @@ unfoldable pub seenIn : List ℕ → List ℕ → List ℕ → List ℕ → ℕ 
 seenIn doc t words links count =
     choose (ltb count (bucketsIn links)) (followed doc t words links (bucketsIn links) (getD links (bucketOf t (bucketsIn links)) 0)) (met doc t (keysIn words count))
 
--- the links once key `count` has been passed, whose text falls into the bucket b
+-- the links once key `count` has been passed, whose text falls into the bucket b; a key for which there is no link has none
 unfoldable pub linkedIn : List ℕ → ℕ → ℕ → List ℕ
-linkedIn links count b = choose (ltb count (bucketsIn links)) (set (set links (bucketsIn links + count) (getD links b 0)) b (count + 1)) links
+linkedIn links count b =
+    choose (ltb count (bucketsIn links)) (choose (ltb b (bucketsIn links)) (set (set links (bucketsIn links + count) (getD links b 0)) b (count + 1)) links) links

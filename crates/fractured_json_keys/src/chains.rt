@@ -7,6 +7,7 @@ use fractured_json_values::texts::text_of;
 ghost use mathlib.Core.Path.{_≡_};
 ghost use Prim.Native.Nat.{_*_, _^_, _≤_, _<_};
 ghost use lib.ListN.{length, getD};
+ghost use Rattle.json.specs.Bytes.{part};
 ghost use Rattle.fractured_json_keys.specs.Chains.{bucketsIn, bucketOf, followed, seenIn, linkedIn};
 
 // How many buckets there are links for.
@@ -20,11 +21,11 @@ fn buckets(links: &[u16]) -> usize
     MOST_KEYS
 }
 
-// The bucket of a text.
-pub fn bucket_of(links: &[u16], t: &[u8]) -> usize
-    ensures { λ r. ⌜ r ≡ bucketOf (now (t .entry)) (bucketsIn (now (links .entry))) ⌝ }
+// The bucket of the text of `len` bytes at a place.
+pub fn bucket_of(doc: &[u8], links: &[u16], start: usize, len: usize) -> usize
+    ensures { λ r. ⌜ r ≡ bucketOf (part (now (doc .entry)) start len) (bucketsIn (now (links .entry))) ⌝ }
 {
-    let hash = text::hash::hash_of(t) as usize;
+    let hash = text::hash::hash_of(text_of(doc, start, len)) as usize;
     hash * buckets(links) / 4294967296
 }
 
@@ -71,11 +72,21 @@ fn follow(doc: &[u8], keys: &[u32], links: &[u16], first: usize, t: &[u8]) -> bo
     false
 }
 
-// Rule 39's test: whether a text of this bucket is one of those in the table's first `count` pairs.
-pub fn was_met(doc: &[u8], keys: &[u32], links: &[u16], count: usize, b: usize, t: &[u8]) -> bool
-    requires { ⌜ b ≡ bucketOf (now t) (bucketsIn (now links)) ⌝ }
-    ensures { λ r. ⌜ r ≡ seenIn (now (doc .entry)) (now (t .entry)) (now (keys .entry)) (now (links .entry)) count ⌝ }
+// Rule 39's test: whether the text of `len` bytes at a place, which falls into the bucket `b`, is one of those in the table's
+// first `count` pairs.
+pub fn was_met(
+    doc: &[u8],
+    keys: &[u32],
+    links: &[u16],
+    count: usize,
+    b: usize,
+    start: usize,
+    len: usize,
+) -> bool
+    requires { ⌜ b ≡ bucketOf (part (now doc) start len) (bucketsIn (now links)) ⌝ }
+    ensures { λ r. ⌜ r ≡ seenIn (now (doc .entry)) (part (now (doc .entry)) start len) (now (keys .entry)) (now (links .entry)) count ⌝ }
 {
+    let t = text_of(doc, start, len);
     if count < buckets(links) {
         let first = link_at(links, b);
         return follow(doc, keys, links, first, t);
@@ -85,12 +96,13 @@ pub fn was_met(doc: &[u8], keys: &[u32], links: &[u16], count: usize, b: usize, 
 
 // Puts key `count` at the head of the chain of its bucket.
 pub fn link(links: &mut [u16], count: usize, b: usize)
-    requires { ⌜ b < bucketsIn (now links) ⌝ }
     ensures { λ _. ⌜ now (links .exit) ≡ linkedIn (now (links .entry)) count b ⌝ }
 {
     let n = buckets(links);
     if count < n {
-        links[n + count] = links[b];
-        links[b] = (count + 1) as u16;
+        if b < n {
+            links[n + count] = links[b];
+            links[b] = (count + 1) as u16;
+        }
     }
 }

@@ -86,5 +86,5 @@ Below width (Refused r) = Unit {0}
 
 abbrev pub toldOpen : Open → Asked Opened
 toldOpen (Leaf past) = answers (leaf past)
-toldOpen (Container object n at) = answers (inside object n at)
+toldOpen (Container at n object) = answers (inside object n at)
 toldOpen (Stopped r) = refuses (r .number) (r .place)

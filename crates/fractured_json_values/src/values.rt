@@ -44,7 +44,7 @@ pub fn sized(doc: &[u8], at: usize, width: usize, tiny: usize) -> Counted
 // A value without contents, by its end; a container's contents, by their number and place; or a refusal.
 pub enum Open {
     Leaf(usize),
-    Container { object: bool, n: usize, at: usize },
+    Container { at: usize, n: usize, object: bool },
     Refused(Refusal),
 }
 
@@ -86,9 +86,9 @@ fn open_kind(len: usize, at: usize, kind: u8, n: usize, past: usize) -> Open
     }
     if kind < 11 {
         return Open::Container {
-            object: kind == 9,
-            n,
             at: past,
+            n,
+            object: kind == 9,
         };
     }
     Open::Refused(Refusal {

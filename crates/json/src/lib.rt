@@ -1,9 +1,9 @@
 // The types that both readers answer with. What they mean stands in specs/.
 
-// A refusal: the number of the rule that failed, and the place where it failed.
+// A refusal: the place where a rule failed, and the number of that rule.
 pub struct Refusal {
-    pub number: u32,
     pub place: usize,
+    pub number: u32,
 }
 
 // The verdict of a check.

@@ -49,6 +49,12 @@ same-length-2 c = search link-laws
 returns-2 : tie.Need-returns-2
 returns-2 c = search link-laws
 
+same-length-3 : tie.Need-same-length-3
+same-length-3 c = search link-laws
+
+returns-3 : tie.Need-returns-3
+returns-3 c = search link-laws
+
 pub link-spec : {M : Type 1} → statement M
 link-spec =
     tie.close
@@ -66,4 +72,6 @@ link-spec =
     same-length
     returns
     same-length-2
-    returns-2)
+    returns-2
+    same-length-3
+    returns-3)

@@ -7,6 +7,10 @@ use Rattle.fractured_json_keys.proofs.chains.buckets.Reads as buckets-r
 use Rattle.fractured_json_keys.proofs.chains.follow.Reads as follow-reads
 use Rattle.fractured_json_keys.proofs.chains.link_at.Reads as link-at-reads
 use Rattle.fractured_json_keys.proofs.pairs.scan.Reads as scan-reads
+use Rattle.fractured_json_values.proofs.texts.text_of.Reads as text-of-reads
+
+text-of-requires : tie.Need-text-of-requires
+text-of-requires c κs = search met-before-laws
 
 buckets-requires : tie.Need-buckets-requires
 buckets-requires c κs = search met-before-laws
@@ -29,4 +33,11 @@ returns-2 c = search met-before-laws
 pub was-met-spec : {M : Type 1} → statement M
 was-met-spec =
     tie.close
-    (tie.spec buckets-requires link-at-requires follow-requires returns scan-requires returns-2)
+    (tie.spec
+    text-of-requires
+    buckets-requires
+    link-at-requires
+    follow-requires
+    returns
+    scan-requires
+    returns-2)
