@@ -10,7 +10,6 @@ use lib.ListN.{length, getD}
 use Rattle.json.specs.Bytes.{Bytes, part}
 use Rattle.json.specs.Limits.{deepest, mostKeys}
 use Rattle.json.specs.Reading.{Outcome, halt, done, Asked, ask, answers, refuses}
-use Rattle.json.specs.Span.{Span}
 use Rattle.json.specs.Tree.{Tree, num, str, arr, obj, Trees, Members, size, sizem, depth, ElementIs, MemberIs, Lacks, NoNumber, NoString, NoArray, NoObject, Subtree}
 use Rattle.json.proofs.Reading.{then, pass, fail, need-yes}
 use Rattle.json.proofs.Tree.{element-at, member-at, member-below, subtree-depth}
@@ -19,7 +18,7 @@ use Rattle.fractured_json_rules.specs.Verdict.{checkKey, check, verdict}
 use Rattle.fractured_json_rules.specs.KeyTable.{roomOf, stored, keyOf, checkedBy, checked}
 use Rattle.fractured_json_rules.specs.TreeOf.{keysOf, treeOf, lengthIn, keyEnd}
 use Rattle.fractured_json_rules.specs.Leads.{elementPlace, keyPlace, Leads, element, value, StandsFor}
-use Rattle.fractured_json_rules.specs.Questions.{readKey, passKey, endOf, kind, Bits, numberAt, stringAt, stringBytes, elementFrom, elementAt, MemberAt}
+use Rattle.fractured_json_rules.specs.Questions.{readKey, passKey, endOf, kind, numberAt, stringAt, stringBytes, elementFrom, elementAt, MemberAt}
 use Rattle.fractured_json_rules.specs.Questions.{memberFrom, memberAt, Found, valueAt, absent, firstMember}
 use Rattle.fractured_json_rules.specs.Answers.{kindOf, valueOf}
 use Rattle.fractured_json_rules.proofs.Sound.{sound}
@@ -141,7 +140,9 @@ module _ (doc : List ℕ) (t : Tree) (m : Means doc t) {o : ℕ} (l : Leads doc 
   unfolding kind
   kind-answer u s = asked doc (opens doc t m) o _ u _ _ _ (below u s .0) (s .value) ∙ kind-is doc u o _ _ _ (s .value)
 
-  pub number-answer : Bytes doc → (s : Bool) (k : ℕ) → StandsFor doc (m .keys) o (num s k) → (b : Bits) × (ask (numberAt doc o) ≡ answers b) × (valueOf b ≡ num s k)
+  -- the type byte is the byte at o; `Bytes doc` says that each item of the document is a byte, as of every lent `&[u8]`
+  pub number-answer : Bytes doc → (s : Bool) (k : ℕ) → StandsFor doc (m .keys) o (num s k)
+      → (bits : ℕ) × (ask (numberAt doc o) ≡ answers (record { type = getD doc o 0; bits = bits })) × (valueOf (record { type = getD doc o 0; bits = bits }) ≡ num s k)
   unfolding numberAt
   number-answer bytes s k n =
       let (b, e, v) = number-is doc bytes s k o _ (n .value .0) in
@@ -151,14 +152,16 @@ module _ (doc : List ℕ) (t : Tree) (m : Means doc t) {o : ℕ} (l : Leads doc 
   unfolding numberAt
   number-wrong u s n = asked doc (opens doc t m) o _ u _ _ _ (below u s .0) (s .value) ∙ no-number doc u o _ _ _ (s .value) n
 
-  pub string-answer : (x : List ℕ) → StandsFor doc (m .keys) o (str x) → (s : Span) × (ask (stringAt doc o) ≡ answers s) × (part doc (s .place) (s .len) ≡ x)
+  -- the length is the text's, and the text ends where the value does
+  pub string-answer : (x : List ℕ) (s : StandsFor doc (m .keys) o (str x))
+      → (p : ℕ) × (ask (stringAt doc o) ≡ answers (record { place = p; len = length x })) × (part doc p (length x) ≡ x) × (p + length x ≡ s .past)
   unfolding stringAt
   string-answer x s =
-      let (p, e, v) = string-is doc x o _ _ _ (s .value) in
-      (p, asked doc (opens doc t m) o _ (str x) _ _ _ (below (str x) s .0) (s .value) ∙ e, v)
+      let (p, e, v, past) = string-is doc x o _ _ _ (s .value) in
+      (p, asked doc (opens doc t m) o _ (str x) _ _ _ (below (str x) s .0) (s .value) ∙ e, v, past)
 
   pub string-bytes : (x : List ℕ) → StandsFor doc (m .keys) o (str x) → stringBytes doc o ≡ x
-  string-bytes x s = let (p, e, v) = string-answer x s in rw e v
+  string-bytes x s = let (p, e, v, past) = string-answer x s in rw e v
 
   pub string-wrong : (u : Tree) → StandsFor doc (m .keys) o u → NoString u → ask (stringAt doc o) ≡ refuses 21 o
   unfolding stringAt
