@@ -212,7 +212,7 @@ module _ (doc : List ℕ) (t : Tree) (m : Means doc t) {o : ℕ} (l : Leads doc 
   pub kind-told : (u : Tree) → StandsFor doc (m .keys) o u → (r : Kind) → toldKind r ≡ ask (kind doc o) → r ≡ kindCase u
   kind-told u s r e = sym (kind-is r) ∙ (ap kindIs (e ∙ Rules.kind-answer doc t m l u s) ∙ kind-case u)
 
-  -- `Bytes doc` holds of every lent `&[u8]`: where the document is lent, `c .shared-slice-known .given` is it
+  -- every lent `&[u8]` has `Bytes doc`: a function that is lent the document has it as `λ i. c .shared-slice-known .given i .fits`
   pub number-told : Bytes doc → (s : Bool) (k : ℕ) → StandsFor doc (m .keys) o (num s k) → (r : Number) → toldNumber r ≡ ask (numberAt doc o)
       → (bits : ℕ) × (r ≡ Number.Is (getD doc o 0) bits) × (valueOf (record { type = getD doc o 0; bits = bits }) ≡ num s k)
   number-told bytes s k n r e =

@@ -18,17 +18,12 @@ use Rattle.fractured_json_rules.specs.KeyTable.{roomOf, pairs, stored, k
 use Rattle.fractured_json_rules.specs.TreeOf.{keysOf}
 use Rattle.fractured_json_rules.proofs.Readers.{kept-is, keep-is}
 
--- the keys passed, however a reading ends
-abbrev left : {A : Type 0} → Outcome Keys A → Keys
-left (halt number place ks) = ks
-left (done a ks) = ks
-
 module _ (room : ℕ) where
   -- a reading that passes no more keys than there is room for
   abbrev Keeps : {A : Type 0} → Reading Keys A → Type 0
-  Keeps m = (ks : Keys) → length ks ≤ room → length (left (m ks)) ≤ room
+  Keeps m = (ks : Keys) → length ks ≤ room → length (keysOf (m ks)) ≤ room
 
-  follows : {A B : Type 0} (r : Outcome Keys A) (f : A → Reading Keys B) → length (left r) ≤ room → ((a : A) → Keeps (f a)) → length (left (follow r f)) ≤ room
+  follows : {A B : Type 0} (r : Outcome Keys A) (f : A → Reading Keys B) → length (keysOf r) ≤ room → ((a : A) → Keeps (f a)) → length (keysOf (follow r f)) ≤ room
   unfolding follow
   follows (halt n p ks) f h k = h
   follows (done a ks) f h k = k a ks h
@@ -43,8 +38,8 @@ module _ (room : ℕ) where
   keeps-need false n p ks h = h
 
   -- a test, and what is known behind it
-  keeps-test : {B : Type 0} (t : Bool) (n p : ℕ) (f : Unit {0} → Reading Keys B) (ks : Keys) → length ks ≤ room → (T t → length (left (f tt ks)) ≤ room)
-      → length (left ((need t n p >>= f) ks)) ≤ room
+  keeps-test : {B : Type 0} (t : Bool) (n p : ℕ) (f : Unit {0} → Reading Keys B) (ks : Keys) → length ks ≤ room → (T t → length (keysOf (f tt ks)) ≤ room)
+      → length (keysOf ((need t n p >>= f) ks)) ≤ room
   unfolding _>>=_ follow need
   keeps-test true n p f ks h k = k tt
   keeps-test false n p f ks h k = h
@@ -138,13 +133,9 @@ module _ (room : ℕ) where
     unfolding check
     keeps-check = keeps-then _ _ keeps-header λ _. keeps-then _ _ (keeps-value deepest 3) λ past. keeps-need _ _ _
 
-left-keys : (r : Outcome Keys (Unit {0})) → left r ≡ keysOf r
-left-keys (halt n p ks) = refl
-left-keys (done u ks) = refl
-
 -- the keys passed are at most the room, refused or not
 pub passed-room : (room : ℕ) (doc : List ℕ) → length (keysOf (verdict room doc)) ≤ room
-passed-room room doc = rw (← left-keys (verdict room doc)) (keeps-check room doc [] (omega arith))
+passed-room room doc = keeps-check room doc [] (omega arith)
 
 -- ---- the words afterwards
 

@@ -77,7 +77,7 @@ module _ (doc : List ℕ) where
       (tinyBits b, rw (st .form-is), rw (st .form-is) (tiny-value b (omega arith) ∙ sym p))
   number-is bs s m o e (asInt true w st i p q) =
       let n = number doc (o + 1) (bytes w) in (
-        extended true w n,
+        extended true (bytes w) n,
         rw (st .form-is) (then _ _ tt (payload-is doc o (bytes w) tt i)),
         rw (st .form-is) (int-value w n (number-small doc bs (o + 1) (bytes w)) ∙ sym p),
       )

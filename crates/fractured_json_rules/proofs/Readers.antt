@@ -5,6 +5,7 @@ use mathlib.Core.Bool.{Bool, true, false, not}
 use mathlib.Core.List.{List}
 use mathlib.Core.Path.{_≡_, refl, sym, _∙_}
 use native.Mathlib.Omega.{arith}
+use borrow.Author.Tests.{lt-ltb, le-ltb}
 use lib.Dec.{T, ltb, leb, leb→le, ltb→lt, nltb→le, le→leb, lt→ltb, eqb→eq}
 use lib.ListN.{length, getD}
 use Rattle.json.specs.Bytes.{number}
@@ -112,20 +113,6 @@ module _ {S B : Type 0} (doc : List ℕ) where
 
 -- ---- what stands there is answered
 
-pub ltb-yes : (a b : ℕ) → a < b → ltb a b ≡ true
-ltb-yes a b h = go (ltb a b) (nltb→le a b)
-  where
-    go : (l : Bool) → (T (not l) → b ≤ a) → l ≡ true
-    go true n = refl
-    go false n = let m = n tt in absurd (omega arith)
-
-pub ltb-no : (a b : ℕ) → b ≤ a → ltb a b ≡ false
-ltb-no a b h = go (ltb a b) (ltb→lt a b)
-  where
-    go : (l : Bool) → (T l → a < b) → l ≡ false
-    go true n = let m = n tt in absurd (omega arith)
-    go false n = refl
-
 module _ {S : Type 0} (doc : List ℕ) where
   pub header-is : (s : S) → Opens doc → header doc s ≡ done tt s
   unfolding header
@@ -149,14 +136,14 @@ module _ {S : Type 0} (doc : List ℕ) where
   spelled-is : (o n e : ℕ) (s : S) → Spelled doc o n e → indexAt doc o spelled s ≡ done (counted n e) s
   unfolding indexAt afterFirst afterSecond
   spelled-is o n e s (oneByte i b p q) =
-      then _ _ s (byte-is (o + 1) o s i) ∙ rw (ltb-yes _ _ b, p, q)
+      then _ _ s (byte-is (o + 1) o s i) ∙ rw (lt-ltb _ _ b, p, q)
   spelled-is o n e s (twoBytes i b0 b1 p q) =
       let j : o + 1 < length doc = omega arith in
-      then _ _ s (byte-is (o + 1) o s j) ∙ rw (ltb-no _ _ b0) (then _ _ s (byte-is (o + 2) o s i) ∙ rw (ltb-yes _ _ b1, p, q))
+      then _ _ s (byte-is (o + 1) o s j) ∙ rw (le-ltb _ _ b0) (then _ _ s (byte-is (o + 2) o s i) ∙ rw (lt-ltb _ _ b1, p, q))
   spelled-is o n e s (threeBytes i b0 b1 b2 p q) =
       let j : o + 1 < length doc = omega arith in
       let k : o + 2 < length doc = omega arith in
-      then _ _ s (byte-is (o + 1) o s j) ∙ rw (ltb-no _ _ b0) (then _ _ s (byte-is (o + 2) o s k) ∙ rw (ltb-no _ _ b1)
+      then _ _ s (byte-is (o + 1) o s j) ∙ rw (le-ltb _ _ b0) (then _ _ s (byte-is (o + 2) o s k) ∙ rw (le-ltb _ _ b1)
       (then _ _ s (byte-is (o + 3) o s i) ∙ rw (p, q) (pass _ _ _ _ s (le→leb _ _ b2))))
 
   pub index-is : (o : ℕ) (x : Index) (n e : ℕ) (s : S) → IndexIs doc o x n e → indexAt doc o x s ≡ done (counted n e) s

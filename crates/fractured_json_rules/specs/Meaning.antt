@@ -70,7 +70,7 @@ pub data Spelled (doc : List ℕ) (o n e : ℕ) : Type 0 where
   threeBytes : o + 3 < length doc → 128 ≤ getD doc (o + 1) 0 → 128 ≤ getD doc (o + 2) 0 → getD doc (o + 3) 0 ≤ 3
       → n ≡ getD doc (o + 1) 0 - 128 + 128 * (getD doc (o + 2) 0 - 128) + 16_384 * getD doc (o + 3) 0 → e ≡ o + 4 → Spelled doc o n e
 
--- the number of the key at o is n, and ends at e
+-- the number that the key byte at o carries is n, and ends at e
 abbrev pub IndexIs : List ℕ → ℕ → Index → ℕ → ℕ → Type 0
 IndexIs doc o (inByte k) n e = (n ≡ k) × (e ≡ o + 1)
 IndexIs doc o spelled n e = Spelled doc o n e
