@@ -90,7 +90,7 @@ module _ {S B : Type 0} (doc : List ℕ) where
   unfolding afterSecond
   second-step o true p q i h f s e = (_, _, twoBytes i h (p tt) refl refl, answered _ f s e)
   second-step o false p q i h f s e =
-      let r = byte-step (o + 3) o _ s (along _ _ f s e) in
+      let r = byte-step (o + 3) _ _ s (along _ _ f s e) in
       let t = tested (leb (getD doc (o + 3) 0) 3) _ _ _ f s (r .1) in
       (_, _, threeBytes (r .0) h (q tt) (leb→le _ _ (t .0)) refl refl, t .1)
 
@@ -100,7 +100,7 @@ module _ {S B : Type 0} (doc : List ℕ) where
   unfolding afterFirst
   first-step o true p q i f s e = (_, _, oneByte i (p tt) refl refl, answered _ f s e)
   first-step o false p q i f s e =
-      let r = byte-step (o + 2) o _ s (along _ _ f s e) in
+      let r = byte-step (o + 2) _ _ s (along _ _ f s e) in
       second-step o (ltb (getD doc (o + 2) 0) 128) (ltb→lt _ _) (nltb→le _ _) (r .0) (q tt) f s (r .1)
 
   pub index-step : (o : ℕ) (x : Index) (f : Counted → Reading S B) (s : S) {b : B} {z : S} → (indexAt doc o x >>= f) s ≡ done b z
@@ -108,7 +108,7 @@ module _ {S B : Type 0} (doc : List ℕ) where
   unfolding indexAt
   index-step o (inByte n) f s e = (n, o + 1, (refl, refl), answered _ f s e)
   index-step o spelled f s e =
-      let r = byte-step (o + 1) o _ s (along _ _ f s e) in
+      let r = byte-step (o + 1) _ _ s (along _ _ f s e) in
       first-step o (ltb (getD doc (o + 1) 0) 128) (ltb→lt _ _) (nltb→le _ _) (r .0) f s (r .1)
 
 -- ---- what stands there is answered
@@ -136,15 +136,15 @@ module _ {S : Type 0} (doc : List ℕ) where
   spelled-is : (o n e : ℕ) (s : S) → Spelled doc o n e → indexAt doc o spelled s ≡ done (counted n e) s
   unfolding indexAt afterFirst afterSecond
   spelled-is o n e s (oneByte i b p q) =
-      then _ _ s (byte-is (o + 1) o s i) ∙ rw (lt-ltb _ _ b, p, q)
+      then _ _ s (byte-is (o + 1) _ s i) ∙ rw (lt-ltb _ _ b, p, q)
   spelled-is o n e s (twoBytes i b0 b1 p q) =
       let j : o + 1 < length doc = omega arith in
-      then _ _ s (byte-is (o + 1) o s j) ∙ rw (le-ltb _ _ b0) (then _ _ s (byte-is (o + 2) o s i) ∙ rw (lt-ltb _ _ b1, p, q))
+      then _ _ s (byte-is (o + 1) _ s j) ∙ rw (le-ltb _ _ b0) (then _ _ s (byte-is (o + 2) _ s i) ∙ rw (lt-ltb _ _ b1, p, q))
   spelled-is o n e s (threeBytes i b0 b1 b2 p q) =
       let j : o + 1 < length doc = omega arith in
       let k : o + 2 < length doc = omega arith in
-      then _ _ s (byte-is (o + 1) o s j) ∙ rw (le-ltb _ _ b0) (then _ _ s (byte-is (o + 2) o s k) ∙ rw (le-ltb _ _ b1)
-      (then _ _ s (byte-is (o + 3) o s i) ∙ rw (p, q) (pass _ _ _ _ s (le→leb _ _ b2))))
+      then _ _ s (byte-is (o + 1) _ s j) ∙ rw (le-ltb _ _ b0) (then _ _ s (byte-is (o + 2) _ s k) ∙ rw (le-ltb _ _ b1)
+      (then _ _ s (byte-is (o + 3) _ s i) ∙ rw (p, q) (pass _ _ _ _ s (le→leb _ _ b2))))
 
   pub index-is : (o : ℕ) (x : Index) (n e : ℕ) (s : S) → IndexIs doc o x n e → indexAt doc o x s ≡ done (counted n e) s
   unfolding indexAt

@@ -127,13 +127,13 @@ value key (suc levels) doc o = do
 
 -- ---- 36 and 38: a key by its form
 
--- `immediately` goes on with the length of an immediate key's text, `back` with the index of a back reference; no global
--- index is found yet
+-- `byLength` goes on with the length of an immediate key's text, `byIndex` with the index of a back reference; no global index
+-- is found yet
 abbrev pub keyBy : {S A : Type 0} → List ℕ → ℕ → (Counted → Reading S A) → (Counted → Reading S A) → KeyForm → Reading S A
-keyBy doc o immediately back (immediate x) = indexAt doc o x >>= immediately
-keyBy doc o immediately back (backReference x) = indexAt doc o x >>= back
-keyBy doc o immediately back (globalIndex x) = indexAt doc o x >>= λ _. refuse 38 o
-keyBy doc o immediately back kReserved = refuse 36 o
+keyBy doc o byLength byIndex (immediate x) = indexAt doc o x >>= byLength
+keyBy doc o byLength byIndex (backReference x) = indexAt doc o x >>= byIndex
+keyBy doc o byLength byIndex (globalIndex x) = indexAt doc o x >>= λ _. refuse 38 o
+keyBy doc o byLength byIndex kReserved = refuse 36 o
 
 -- ---- 38, 39 and 40: a key as the check reads it, with room for so many keys
 
