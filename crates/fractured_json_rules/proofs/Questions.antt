@@ -12,13 +12,13 @@ use Rattle.json.specs.Tree.{Tree, null, bool, num, str, arr, obj, Trees, Member
 use Rattle.json.proofs.Bytes.{number-small}
 use Rattle.json.proofs.Reading.{then, pass, need-yes}
 use Rattle.fractured_json_rules.specs.ByteTables.{bytes, formOf}
-use Rattle.fractured_json_rules.specs.Meaning.{behindLength, TextIs, NumberIs, asTiny, asInt, asFloat, Keys, ValueIs}
+use Rattle.fractured_json_rules.specs.Meaning.{behindLength, TextIs, NumberIs, asTiny, asInt, asFloat, Keys, ValueIs, Opens}
 use Rattle.fractured_json_rules.specs.Verdict.{byteAt}
 use Rattle.fractured_json_rules.specs.Questions.{opening, kindBy, extended, tinyBits, numberBy, stringBy, arrayBy, objectBy}
 use Rattle.fractured_json_rules.specs.Answers.{kindOf, valueBy, valueOf}
 use Rattle.fractured_json_rules.proofs.Nodes.{value-form}
 use Rattle.fractured_json_rules.proofs.Numbers.{int-value, tiny-value, tiny-byte}
-use Rattle.fractured_json_rules.proofs.Readers.{Opens, header-is, byte-is, payload-is, length-is}
+use Rattle.fractured_json_rules.proofs.Readers.{header-is, byte-is, payload-is, length-is}
 
 module _ (doc : List ℕ) where
   value-inside : (u : Tree) (o : ℕ) (ks : Keys) (e : ℕ) (kz : Keys) → ValueIs doc u o ks e kz → o < length doc

@@ -9,11 +9,11 @@ use borrow.Author.Tests.{lt-ltb, le-ltb}
 use lib.Dec.{T, ltb, leb, leb→le, ltb→lt, nltb→le, le→leb, lt→ltb, eqb→eq}
 use lib.ListN.{length, getD}
 use Rattle.json.specs.Bytes.{number}
-use Rattle.json.specs.Limits.{leastFractured, longest}
 use Rattle.json.specs.Reading.{Reading, done, answer, kept, keep, _>>=_, follow, need}
 use Rattle.json.proofs.Reading.{halt≢done, done-kept, passed, then, pass, need-yes, assoc}
 use Rattle.fractured_json_rules.specs.ByteTables.{bytes, Len, tiny, behind, Index, inByte, spelled}
 use Rattle.fractured_json_rules.specs.Meaning.{LengthIs, Spelled, oneByte, twoBytes, threeBytes, IndexIs}
+pub use Rattle.fractured_json_rules.specs.Meaning.{Opens}
 use Rattle.fractured_json_rules.specs.Verdict.{header, byteAt, payload, lengthAt, Counted, counted, afterSecond, afterFirst, indexAt}
 
 -- ---- what is kept, read and replaced at the head of a chain
@@ -48,14 +48,6 @@ pub last-test : {S : Type 0} (t : Bool) (n p : ℕ) (s : S) {u : Unit {0}} {z : 
 unfolding need
 last-test true n p s e = (tt, done-kept e)
 last-test false n p s e = absurd (halt≢done e)
-
--- what 31 to 34 ask for
-pub record Opens (doc : List ℕ) : Type 0 where
-  pub long : leastFractured ≤ length doc
-  pub short : length doc ≤ longest
-  pub magic0 : getD doc 0 0 ≡ 0x46
-  pub magic1 : getD doc 1 0 ≡ 0x4A
-  pub config : getD doc 2 0 ≡ 0x01
 
 module _ {S B : Type 0} (doc : List ℕ) where
   pub header-step : (f : Unit {0} → Reading S B) (s : S) {b : B} {z : S} → (header doc >>= f) s ≡ done b z → Opens doc × (f tt s ≡ done b z)
