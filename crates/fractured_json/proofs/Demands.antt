@@ -222,6 +222,7 @@ module _ (doc : List ℕ) (t : Tree) (m : Means doc t) {o : ℕ} (l : Leads doc 
   pub number-told-wrong : (u : Tree) → StandsFor doc (m .keys) o u → NoNumber u → (r : Number) → toldNumber r ≡ ask (numberAt doc o) → r ≡ Number.Refused (refusal 21 o)
   number-told-wrong u s n r e = sym (number-is r) ∙ ap numberIs (e ∙ Rules.number-wrong doc t m l u s n)
 
+  -- the length is the text's, and the text ends where the value does
   pub string-told : (x : List ℕ) (s : StandsFor doc (m .keys) o (str x)) (r : Text) → toldText r ≡ ask (stringAt doc o)
       → (p : ℕ) × (r ≡ Text.At p (length x)) × (part doc p (length x) ≡ x) × (p + length x ≡ s .past)
   string-told x s r e =

@@ -86,7 +86,7 @@ table-kept doc words =
       bounded = rw count fits;
       as-long = ap length after ∙ stored-length ks words room;
       each-pair = λ j h. ap (λ w. keyOf w j) after ∙ stored-pair ks words j (omega arith);
-      all-others = λ i h. ap (λ w. getD w i 0) after ∙ stored-other ks words i room (omega arith);
+      all-others = λ i h. ap (λ w. getD w i 0) after ∙ stored-other ks words i (omega arith);
     }
 
 -- ---- Every value that the root leads to stands for one subtree of the document's tree.

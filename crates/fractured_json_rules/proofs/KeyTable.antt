@@ -1,12 +1,13 @@
 -- The lent key table: the check never passes more keys than there is room for, refused or not; so each key passed has its
 -- pair, and all other words keep what they held.
-use Prim.Native.Nat.{ℕ, zero, suc, _+_, _*_, _≤_, _<_}
+use Prim.Native.Nat.{ℕ, zero, suc, _+_, _-_, _*_, _≤_, _<_}
 use mathlib.Core.Bool.{Bool, true, false}
 use mathlib.Core.List.{List, [], _∷_, _++_}
-use mathlib.Core.Path.{_≡_, refl}
+use mathlib.Core.Path.{_≡_, refl, ap, _∙_}
 use native.Mathlib.Omega.{arith}
 use lib.Dec.{T, ltb, ltb→lt}
-use lib.ListN.{length, getD, length-append, length-drop}
+use lib.ListN.{length, getD, drop, length-append, length-drop}
+use lib.Seq.{getD-append-add, getD-drop}
 use Rattle.json.specs.Limits.{deepest}
 use Rattle.json.specs.Reading.{Outcome, halt, done, Reading, follow, _>>=_, need}
 use Rattle.fractured_json_rules.specs.ByteTables.{Len, tiny, behind, Form, fNull, fBool, fInt, fFloat, fTiny, fString, fObject, fArray, fReserved, formOf}
@@ -163,13 +164,10 @@ pub stored-pair : (ks : Keys) (words : List ℕ) (j : ℕ) → j < length ks →
 unfolding stored
 stored-pair ks words j h = pair-at ks _ j h
 
-pub stored-other : (ks : Keys) (words : List ℕ) (i : ℕ) → 2 * length ks ≤ length words → 2 * length ks ≤ i → getD (stored ks words) i 0 ≡ getD words i 0
+pub stored-other : (ks : Keys) (words : List ℕ) (i : ℕ) → 2 * length ks ≤ i → getD (stored ks words) i 0 ≡ getD words i 0
 unfolding stored
-stored-other [] words i h k = refl
-stored-other (x ∷ ks) [] i h k = absurd (omega arith)
-stored-other (x ∷ ks) (a ∷ []) i h k = absurd (omega arith)
-stored-other (x ∷ ks) (a ∷ b ∷ words) zero h k = absurd (omega arith)
-stored-other (x ∷ ks) (a ∷ b ∷ words) (suc zero) h k = absurd (omega arith)
-stored-other (x ∷ ks) (a ∷ b ∷ words) (suc (suc i)) h k =
-    let e : 2 * suc (length ks) ≡ suc (suc (2 * length ks)) = omega arith in
-    rw e (stored-other ks words i (omega arith) (omega arith))
+stored-other ks words i h =
+    let n = pairs-length ks in
+    let at : i ≡ length (pairs ks) + (i - 2 * length ks) = omega arith in
+    let back : 2 * length ks + (i - 2 * length ks) ≡ i = omega arith in
+    ap (λ j. getD (pairs ks ++ drop (2 * length ks) words) j 0) at ∙ (getD-append-add (pairs ks) _ _ 0 ∙ rw (getD-drop, back))

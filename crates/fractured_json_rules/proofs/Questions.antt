@@ -34,6 +34,9 @@ module _ (doc : List ℕ) where
   value-inside (arr ts) o ks e kz h = h .1 .inside
   value-inside (obj ms) o ks e kz h = h .1 .inside
 
+  text-length : (t : List ℕ) (o n : ℕ) → TextIs doc o n t → length t ≡ n
+  text-length t o n h = let fits = h .inside in rw (h .same, length-take, length-drop) (omega arith)
+
   pub opening-is : Opens doc → (o : ℕ) → 3 ≤ o → ask (opening doc o) ≡ answers tt
   unfolding opening
   opening-is h o b = then _ _ tt (header-is doc tt h) ∙ need-yes _ _ _ tt (le→leb _ _ b)
@@ -44,9 +47,6 @@ module _ (doc : List ℕ) where
   asked h o by u ks e kz b v = then _ _ tt (opening-is h o b) ∙ then _ _ tt (byte-is doc o o tt (value-inside u o ks e kz v))
 
   -- ---- its kind
-
-  text-length : (t : List ℕ) (o n : ℕ) → TextIs doc o n t → length t ≡ n
-  text-length t o n h = let fits = h .inside in rw (h .same, length-take, length-drop) (omega arith)
 
   number-kind : (s : Bool) (m o e : ℕ) → NumberIs doc (num s m) o e → ask (kindBy doc o (formOf (getD doc o 0))) ≡ answers (kindOf (num s m))
   unfolding kindBy kindOf
