@@ -1,6 +1,6 @@
 -- The demands on Fractured JSON, of the code's own answers. Each takes the equation that a call's contract ensures, and says of
 -- the answer what the theorems over the rules say of the rule.
-use Prim.Native.Nat.{ℕ, _*_, _≤_, _<_}
+use Prim.Native.Nat.{ℕ, _+_, _*_, _≤_, _<_}
 use mathlib.Core.Bool.{Bool, true, false}
 use mathlib.Core.List.{List, []}
 use mathlib.Core.Logic.{_↔_}
@@ -127,6 +127,12 @@ kind-case (str t) = refl
 kind-case (obj ms) = refl
 kind-case (arr ts) = refl
 
+-- An answer r whose contract is `says r ≡ q` is the case a exactly if the rule q says what a says. For a refusal a: the code
+-- refuses with a number and place exactly if the rule does.
+answered-exactly : {R A : Type 0} (says : R → Asked A) (back : Asked A → R) → ((r : R) → back (says r) ≡ r) → {q : Asked A} (r : R) → says r ≡ q → (a : R)
+    → (r ≡ a) ↔ (q ≡ says a)
+answered-exactly says back same r e a = (λ b. sym e ∙ ap says b, λ b. sym (same r) ∙ (ap back (e ∙ b) ∙ same a))
+
 -- ---- Demand 2: `check` accepts exactly the documents that keep the format's rules, with room for their keys in the table lent.
 
 accepted-keys : (words : List ℕ) (q : Outcome Keys (Unit {0})) → answers tt ≡ checkedBy words q .verdict → (ks : Keys) × (q ≡ done tt ks)
@@ -145,10 +151,11 @@ module _ (doc words after : List ℕ) (r : Checked) (contract : toldChecked r af
   )
 
   -- ---- Demand 1: "Bad input is refused with the number and place that document 01 fixes; 01 says what the lent key table holds
-  -- afterwards": each immediate key passed has its pair, and all other words keep what they held.
+  -- afterwards": `check` refuses with a number and place exactly if the rule does; each immediate key passed has its pair, and
+  -- all other words keep what they held.
 
-  pub refused-as-fixed : (f : Refusal) → r .verdict ≡ Verdict.Refused f → checked doc words .verdict ≡ refuses (f .number) (f .place)
-  refused-as-fixed f e = sym verdict-says ∙ ap told e
+  pub refused-as-fixed : (n p : ℕ) → (r .verdict ≡ Verdict.Refused (refusal n p)) ↔ (checked doc words .verdict ≡ refuses n p)
+  refused-as-fixed n p = answered-exactly told verdictIs verdict-is (r .verdict) verdict-says (Verdict.Refused (refusal n p))
 
   pub count-is : r .count ≡ checked doc words .count
   count-is = ap (λ c. c .count) contract
@@ -166,6 +173,38 @@ module _ (doc words after : List ℕ) (r : Checked) (contract : toldChecked r af
         λ i h. ap (λ w. getD w i 0) words-are ∙ k .all-others i (rw count-is at h),
       )
 
+-- ---- Demand 1: "Bad input is refused with the number and place that document 01 fixes", of the questions, for all bytes, cursors,
+-- key tables and counts: each refuses with a number and place exactly if its rule does. A text is empty at a refusal.
+
+module _ (doc : List ℕ) (c n p : ℕ) where
+  pub kind-refused : (r : Kind) → toldKind r ≡ ask (kind doc c) → (r ≡ Kind.Refused (refusal n p)) ↔ (ask (kind doc c) ≡ refuses n p)
+  kind-refused r e = answered-exactly toldKind kindIs kind-is r e (Kind.Refused (refusal n p))
+
+  pub number-refused : (r : Number) → toldNumber r ≡ ask (numberAt doc c) → (r ≡ Number.Refused (refusal n p)) ↔ (ask (numberAt doc c) ≡ refuses n p)
+  number-refused r e = answered-exactly toldNumber numberIs number-is r e (Number.Refused (refusal n p))
+
+  pub string-refused : (r : Text) → toldText r ≡ ask (stringAt doc c) → (r ≡ Text.Refused (refusal n p)) ↔ (ask (stringAt doc c) ≡ refuses n p)
+  string-refused r e = answered-exactly toldText textIs text-is r e (Text.Refused (refusal n p))
+
+  pub string-text-refused : (r : List ℕ) → r ≡ stringBytes doc c → ask (stringAt doc c) ≡ refuses n p → r ≡ []
+  string-text-refused r e h = e ∙ rw h
+
+  module _ (words : List ℕ) (count : ℕ) where
+    pub end-refused : (r : Place) → toldPlace r ≡ ask (endOf doc words count c) → (r ≡ Place.Refused (refusal n p)) ↔ (ask (endOf doc words count c) ≡ refuses n p)
+    end-refused r e = answered-exactly toldPlace placeIs place-is r e (Place.Refused (refusal n p))
+
+    pub element-refused : (i : ℕ) (r : Place) → toldPlace r ≡ ask (elementAt doc words count c i)
+        → (r ≡ Place.Refused (refusal n p)) ↔ (ask (elementAt doc words count c i) ≡ refuses n p)
+    element-refused i r e = answered-exactly toldPlace placeIs place-is r e (Place.Refused (refusal n p))
+
+    pub member-refused : (j : ℕ) (r : Member) → toldMember r ≡ ask (memberAt doc words count c j)
+        → (r ≡ Member.Refused (refusal n p)) ↔ (ask (memberAt doc words count c j) ≡ refuses n p)
+    member-refused j r e = answered-exactly toldMember memberIs member-is r e (Member.Refused (refusal n p))
+
+    pub first-member-refused : (x : List ℕ) (r : Found) → toldFound r ≡ ask (firstMember doc words count c x)
+        → (r ≡ Found.Refused (refusal n p)) ↔ (ask (firstMember doc words count c x) ≡ refuses n p)
+    first-member-refused x r e = answered-exactly toldFound foundIs found-is r e (Found.Refused (refusal n p))
+
 -- ---- Demand 2: every question put to a node that the root leads to is answered from the tree; the questions that go by keys,
 -- with the very words and count that `check` left.
 
@@ -173,20 +212,22 @@ module _ (doc : List ℕ) (t : Tree) (m : Means doc t) {o : ℕ} (l : Leads doc 
   pub kind-told : (u : Tree) → StandsFor doc (m .keys) o u → (r : Kind) → toldKind r ≡ ask (kind doc o) → r ≡ kindCase u
   kind-told u s r e = sym (kind-is r) ∙ (ap kindIs (e ∙ Rules.kind-answer doc t m l u s) ∙ kind-case u)
 
+  -- every lent `&[u8]` has `Bytes doc`: a function that is lent the document has it as `λ i. c .shared-slice-known .given i .fits`
   pub number-told : Bytes doc → (s : Bool) (k : ℕ) → StandsFor doc (m .keys) o (num s k) → (r : Number) → toldNumber r ≡ ask (numberAt doc o)
-      → (b n : ℕ) × (r ≡ Number.Is b n) × (valueOf (record { type = b; bits = n }) ≡ num s k)
+      → (bits : ℕ) × (r ≡ Number.Is (getD doc o 0) bits) × (valueOf (record { type = getD doc o 0; bits = bits }) ≡ num s k)
   number-told bytes s k n r e =
       let (b, a, v) = Rules.number-answer doc t m l bytes s k n in
-      (b .type, b .bits, sym (number-is r) ∙ ap numberIs (e ∙ a), v)
+      (b, sym (number-is r) ∙ ap numberIs (e ∙ a), v)
 
   pub number-told-wrong : (u : Tree) → StandsFor doc (m .keys) o u → NoNumber u → (r : Number) → toldNumber r ≡ ask (numberAt doc o) → r ≡ Number.Refused (refusal 21 o)
   number-told-wrong u s n r e = sym (number-is r) ∙ ap numberIs (e ∙ Rules.number-wrong doc t m l u s n)
 
-  pub string-told : (x : List ℕ) → StandsFor doc (m .keys) o (str x) → (r : Text) → toldText r ≡ ask (stringAt doc o)
-      → (p n : ℕ) × (r ≡ Text.At p n) × (part doc p n ≡ x)
+  -- the length is the text's, and the text ends where the value does
+  pub string-told : (x : List ℕ) (s : StandsFor doc (m .keys) o (str x)) (r : Text) → toldText r ≡ ask (stringAt doc o)
+      → (p : ℕ) × (r ≡ Text.At p (length x)) × (part doc p (length x) ≡ x) × (p + length x ≡ s .past)
   string-told x s r e =
-      let (a, b, v) = Rules.string-answer doc t m l x s in
-      (a .place, a .len, sym (text-is r) ∙ ap textIs (e ∙ b), v)
+      let (p, a, v, past) = Rules.string-answer doc t m l x s in
+      (p, sym (text-is r) ∙ ap textIs (e ∙ a), v, past)
 
   pub string-told-wrong : (u : Tree) → StandsFor doc (m .keys) o u → NoString u → (r : Text) → toldText r ≡ ask (stringAt doc o) → r ≡ Text.Refused (refusal 21 o)
   string-told-wrong u s n r e = sym (text-is r) ∙ ap textIs (e ∙ Rules.string-wrong doc t m l u s n)

@@ -16,7 +16,7 @@ use Rattle.fractured_json_containers.specs.declared.lookup.Look.{Look}
 
 -- ---- keys
 
--- a key by its kind, once its number has been read
+-- a key by its kind, once the number that it carries has been read
 unfoldable pub numberedKey : {S : Type 0} → List ℕ → List ℕ → ℕ → ℕ → ℕ → Counted → Reading S KeyRead
 numberedKey doc words count o kind n = choose (eqb kind 0) (textKey doc o n) (choose (eqb kind 1) (backKey doc words count o n) (refuse 38 o))
 

@@ -62,7 +62,7 @@ fn back_key(
     KeyText::At { start, len, past }
 }
 
-// A key by its kind, once its number has been read.
+// A key by its kind, once the number that it carries has been read.
 fn numbered_key(
     doc: &[u8],
     keys: &[u32],

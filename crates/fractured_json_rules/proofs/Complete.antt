@@ -1,4 +1,4 @@
--- What keeps the rules passes: the header of a document that means a tree, and each key that there is room for.
+-- What keeps the rules passes: each key that there is room for.
 use Prim.Native.Nat.{ℕ, _≤_, _<_}
 use mathlib.Core.List.{List}
 use mathlib.Core.Path.{_≡_, _∙_}
@@ -6,15 +6,11 @@ use native.Mathlib.Omega.{arith}
 use lib.Dec.{le→leb, lt→ltb}
 use lib.ListN.{length, length-append}
 use Rattle.json.specs.Reading.{done}
-use Rattle.json.specs.Tree.{Tree}
 use Rattle.json.proofs.Reading.{then, pass}
-use Rattle.fractured_json_rules.specs.Meaning.{Keys, KeyIs, asText, asBack, Means}
+use Rattle.fractured_json_rules.specs.Meaning.{Keys, KeyIs, asText, asBack}
 use Rattle.fractured_json_rules.specs.Verdict.{newKey, oldKey, checkKeyBy, checkKey}
 use Rattle.fractured_json_rules.proofs.Keys.{fresh-met}
-use Rattle.fractured_json_rules.proofs.Readers.{kept-is, keep-is, Opens, byte-is, index-is}
-
-pub opens : (doc : List ℕ) (t : Tree) → Means doc t → Opens doc
-opens doc t m = record { long = m .long; short = m .short; magic0 = m .magic0; magic1 = m .magic1; config = m .config }
+use Rattle.fractured_json_rules.proofs.Readers.{kept-is, keep-is, byte-is, index-is}
 
 module _ (room : ℕ) (doc : List ℕ) where
   pub key-passes : (t : List ℕ) (o : ℕ) (ks : Keys) (e : ℕ) (kz : Keys) → KeyIs doc t o ks e kz → length kz ≤ room → checkKey room doc o ks ≡ done e kz

@@ -10,7 +10,6 @@ use lib.ListN.{length, getD}
 use Rattle.json.specs.Bytes.{Bytes, part}
 use Rattle.json.specs.Limits.{deepest, mostKeys}
 use Rattle.json.specs.Reading.{Outcome, halt, done, Asked, ask, answers, refuses}
-use Rattle.json.specs.Span.{Span}
 use Rattle.json.specs.Tree.{Tree, num, str, arr, obj, Trees, Members, size, sizem, depth, ElementIs, MemberIs, Lacks, NoNumber, NoString, NoArray, NoObject, Subtree}
 use Rattle.json.proofs.Reading.{then, pass, fail, need-yes}
 use Rattle.json.proofs.Tree.{element-at, member-at, member-below, subtree-depth}
@@ -19,11 +18,11 @@ use Rattle.fractured_json_rules.specs.Verdict.{checkKey, check, verdict}
 use Rattle.fractured_json_rules.specs.KeyTable.{roomOf, stored, keyOf, checkedBy, checked}
 use Rattle.fractured_json_rules.specs.TreeOf.{keysOf, treeOf, lengthIn, keyEnd}
 use Rattle.fractured_json_rules.specs.Leads.{elementPlace, keyPlace, Leads, element, value, StandsFor}
-use Rattle.fractured_json_rules.specs.Questions.{readKey, passKey, endOf, kind, Bits, numberAt, stringAt, stringBytes, elementFrom, elementAt, MemberAt}
+use Rattle.fractured_json_rules.specs.Questions.{readKey, passKey, endOf, kind, numberAt, stringAt, stringBytes, elementFrom, elementAt, MemberAt}
 use Rattle.fractured_json_rules.specs.Questions.{memberFrom, memberAt, Found, valueAt, absent, firstMember}
 use Rattle.fractured_json_rules.specs.Answers.{kindOf, valueOf}
 use Rattle.fractured_json_rules.proofs.Sound.{sound}
-use Rattle.fractured_json_rules.proofs.Complete.{opens, key-passes}
+use Rattle.fractured_json_rules.proofs.Complete.{key-passes}
 use Rattle.fractured_json_rules.proofs.Keys.{first-all, first-trans, first-length, grows, keys-inside}
 use Rattle.fractured_json_rules.proofs.KeyTable.{passed-room, room-words, stored-length, stored-pair, stored-other}
 use Rattle.fractured_json_rules.proofs.Trees.{length-in, tree-at}
@@ -39,7 +38,7 @@ use Rattle.fractured_json_rules.proofs.Questions.{opening-is, asked, ki
 pub accepted-keys : (room : ℕ) (doc : List ℕ) (t : Tree) (m : Means doc t) → length (m .keys) ≤ room → verdict room doc ≡ done tt (m .keys)
 unfolding check
 accepted-keys room doc t m r =
-    then _ _ [] (header-is doc [] (opens doc t m))
+    then _ _ [] (header-is doc [] (m .opens))
     ∙ (then _ _ [] (walks doc (checkKey room doc) (m .keys) (λ ks. ks) (λ k o ks e kz h g. let less = first-length g in key-passes room doc k o ks e kz h (omega arith))
     t deepest 3 [] (length doc) (m .keys) (m .root) (first-all (m .keys)) (m .nested))
     ∙ need-yes _ _ _ (m .keys) (eqb-refl (length doc)))
@@ -87,7 +86,7 @@ table-kept doc words =
       bounded = rw count fits;
       as-long = ap length after ∙ stored-length ks words room;
       each-pair = λ j h. ap (λ w. keyOf w j) after ∙ stored-pair ks words j (omega arith);
-      all-others = λ i h. ap (λ w. getD w i 0) after ∙ stored-other ks words i room (omega arith);
+      all-others = λ i h. ap (λ w. getD w i 0) after ∙ stored-other ks words i (omega arith);
     }
 
 -- ---- Every value that the root leads to stands for one subtree of the document's tree.
@@ -139,30 +138,34 @@ module _ (doc : List ℕ) (t : Tree) (m : Means doc t) {o : ℕ} (l : Leads doc 
 
   pub kind-answer : (u : Tree) → StandsFor doc (m .keys) o u → ask (kind doc o) ≡ answers (kindOf u)
   unfolding kind
-  kind-answer u s = asked doc (opens doc t m) o _ u _ _ _ (below u s .0) (s .value) ∙ kind-is doc u o _ _ _ (s .value)
+  kind-answer u s = asked doc (m .opens) o _ u _ _ _ (below u s .0) (s .value) ∙ kind-is doc u o _ _ _ (s .value)
 
-  pub number-answer : Bytes doc → (s : Bool) (k : ℕ) → StandsFor doc (m .keys) o (num s k) → (b : Bits) × (ask (numberAt doc o) ≡ answers b) × (valueOf b ≡ num s k)
+  -- the type byte is the byte at o; `Bytes doc` says that each item of the document is a byte, as of every lent `&[u8]`
+  pub number-answer : Bytes doc → (s : Bool) (k : ℕ) → StandsFor doc (m .keys) o (num s k)
+      → (bits : ℕ) × (ask (numberAt doc o) ≡ answers (record { type = getD doc o 0; bits = bits })) × (valueOf (record { type = getD doc o 0; bits = bits }) ≡ num s k)
   unfolding numberAt
   number-answer bytes s k n =
       let (b, e, v) = number-is doc bytes s k o _ (n .value .0) in
-      (b, asked doc (opens doc t m) o _ (num s k) _ _ _ (below (num s k) n .0) (n .value) ∙ e, v)
+      (b, asked doc (m .opens) o _ (num s k) _ _ _ (below (num s k) n .0) (n .value) ∙ e, v)
 
   pub number-wrong : (u : Tree) → StandsFor doc (m .keys) o u → NoNumber u → ask (numberAt doc o) ≡ refuses 21 o
   unfolding numberAt
-  number-wrong u s n = asked doc (opens doc t m) o _ u _ _ _ (below u s .0) (s .value) ∙ no-number doc u o _ _ _ (s .value) n
+  number-wrong u s n = asked doc (m .opens) o _ u _ _ _ (below u s .0) (s .value) ∙ no-number doc u o _ _ _ (s .value) n
 
-  pub string-answer : (x : List ℕ) → StandsFor doc (m .keys) o (str x) → (s : Span) × (ask (stringAt doc o) ≡ answers s) × (part doc (s .place) (s .len) ≡ x)
+  -- the length is the text's, and the text ends where the value does
+  pub string-answer : (x : List ℕ) (s : StandsFor doc (m .keys) o (str x))
+      → (p : ℕ) × (ask (stringAt doc o) ≡ answers (record { place = p; len = length x })) × (part doc p (length x) ≡ x) × (p + length x ≡ s .past)
   unfolding stringAt
   string-answer x s =
-      let (p, e, v) = string-is doc x o _ _ _ (s .value) in
-      (p, asked doc (opens doc t m) o _ (str x) _ _ _ (below (str x) s .0) (s .value) ∙ e, v)
+      let (p, e, v, past) = string-is doc x o _ _ _ (s .value) in
+      (p, asked doc (m .opens) o _ (str x) _ _ _ (below (str x) s .0) (s .value) ∙ e, v, past)
 
   pub string-bytes : (x : List ℕ) → StandsFor doc (m .keys) o (str x) → stringBytes doc o ≡ x
-  string-bytes x s = let (p, e, v) = string-answer x s in rw e v
+  string-bytes x s = let (p, e, v, past) = string-answer x s in rw e v
 
   pub string-wrong : (u : Tree) → StandsFor doc (m .keys) o u → NoString u → ask (stringAt doc o) ≡ refuses 21 o
   unfolding stringAt
-  string-wrong u s n = asked doc (opens doc t m) o _ u _ _ _ (below u s .0) (s .value) ∙ no-string doc u o _ _ _ (s .value) n
+  string-wrong u s n = asked doc (m .opens) o _ u _ _ _ (below u s .0) (s .value) ∙ no-string doc u o _ _ _ (s .value) n
 
   pub string-bytes-wrong : (u : Tree) → StandsFor doc (m .keys) o u → NoString u → stringBytes doc o ≡ []
   string-bytes-wrong u s n = rw (string-wrong u s n)
@@ -189,7 +192,7 @@ module _ (doc : List ℕ) (t : Tree) (m : Means doc t) (words : List ℕ) (roomy
         let (b, sub) = below doc t m l u s in
         let d = subtree-depth t sub in
         let n = m .nested in
-        then _ _ tt (opening-is doc (opens doc t m) o b) ∙ walks-value doc (m .keys) _ _ holds u deepest o _ _ _ (s .value) (s .first) (omega arith)
+        then _ _ tt (opening-is doc (m .opens) o b) ∙ walks-value doc (m .keys) _ _ holds u deepest o _ _ _ (s .value) (s .first) (omega arith)
 
     -- ---- element i
 
@@ -209,7 +212,7 @@ module _ (doc : List ℕ) (t : Tree) (m : Means doc t) (words : List ℕ) (roomy
           place = elementPlace doc o x i;
           tree = v;
           answered =
-              asked doc (opens doc t m) o _ (arr ts) _ _ _ b (s .value) ∙ (array-is doc _ ts o _ _ _ (s .value)
+              asked doc (m .opens) o _ (arr ts) _ _ _ b (s .value) ∙ (array-is doc _ ts o _ _ _ (s .value)
               ∙ (pass _ _ _ _ tt (lt→ltb _ _ h) ∙ walks-to-element doc (m .keys) _ _ holds ts i _ _ _ _ (s .value .3) (s .first) (omega arith) h));
           led-to = element o x i l form (omega arith);
           stands = r;
@@ -221,13 +224,13 @@ module _ (doc : List ℕ) (t : Tree) (m : Means doc t) (words : List ℕ) (roomy
     unfolding elementAt elementFrom
     element-past ts i s h =
         let (b, sub) = below doc t m l (arr ts) s in
-        asked doc (opens doc t m) o _ (arr ts) _ _ _ b (s .value) ∙ (array-is doc _ ts o _ _ _ (s .value)
+        asked doc (m .opens) o _ (arr ts) _ _ _ b (s .value) ∙ (array-is doc _ ts o _ _ _ (s .value)
         ∙ fail _ _ _ _ tt (λ y. let z = ltb→lt i (size ts) y in omega arith))
 
     pub element-wrong : (u : Tree) (i : ℕ) → StandsFor doc (m .keys) o u → NoArray u
         → ask (elementAt doc (checked doc words .words) (checked doc words .count) o i) ≡ refuses 21 o
     unfolding elementAt
-    element-wrong u i s n = asked doc (opens doc t m) o _ u _ _ _ (below doc t m l u s .0) (s .value) ∙ no-array doc u o _ _ _ (s .value) _ n
+    element-wrong u i s n = asked doc (m .opens) o _ u _ _ _ (below doc t m l u s .0) (s .value) ∙ no-array doc u o _ _ _ (s .value) _ n
 
     -- ---- member j
 
@@ -250,7 +253,7 @@ module _ (doc : List ℕ) (t : Tree) (m : Means doc t) (words : List ℕ) (roomy
           key = k;
           tree = v;
           answered =
-              asked doc (opens doc t m) o _ (obj ms) _ _ _ b (s .value) ∙ (object-is doc _ ms o _ _ _ (s .value)
+              asked doc (m .opens) o _ (obj ms) _ _ _ b (s .value) ∙ (object-is doc _ ms o _ _ _ (s .value)
               ∙ (pass _ _ _ _ tt (lt→ltb _ _ h) ∙ (then _ _ tt (walks-to-member doc (m .keys) _ _ holds ms j _ _ _ _ (s .value .3) (s .first) (omega arith) h)
               ∙ then _ _ tt (then _ _ tt read))));
           key-read = read;
@@ -264,13 +267,13 @@ module _ (doc : List ℕ) (t : Tree) (m : Means doc t) (words : List ℕ) (roomy
     unfolding memberAt memberFrom
     member-past ms j s h =
         let (b, sub) = below doc t m l (obj ms) s in
-        asked doc (opens doc t m) o _ (obj ms) _ _ _ b (s .value) ∙ (object-is doc _ ms o _ _ _ (s .value)
+        asked doc (m .opens) o _ (obj ms) _ _ _ b (s .value) ∙ (object-is doc _ ms o _ _ _ (s .value)
         ∙ fail _ _ _ _ tt (λ y. let z = ltb→lt j (sizem ms) y in omega arith))
 
     pub member-wrong : (u : Tree) (j : ℕ) → StandsFor doc (m .keys) o u → NoObject u
         → ask (memberAt doc (checked doc words .words) (checked doc words .count) o j) ≡ refuses 21 o
     unfolding memberAt
-    member-wrong u j s n = asked doc (opens doc t m) o _ u _ _ _ (below doc t m l u s .0) (s .value) ∙ no-object doc u o _ _ _ (s .value) _ n
+    member-wrong u j s n = asked doc (m .opens) o _ u _ _ _ (below doc t m l u s .0) (s .value) ∙ no-object doc u o _ _ _ (s .value) _ n
 
     -- ---- the first member by key
 
@@ -281,7 +284,7 @@ module _ (doc : List ℕ) (t : Tree) (m : Means doc t) (words : List ℕ) (roomy
         let (b, sub) = below doc t m l (obj ms) s in
         let d = subtree-depth t sub in
         let n = m .nested in
-        let begins = asked doc (opens doc t m) o _ (obj ms) _ _ _ b (s .value) ∙ object-is doc _ ms o _ _ _ (s .value) in
+        let begins = asked doc (m .opens) o _ (obj ms) _ _ _ b (s .value) ∙ object-is doc _ ms o _ _ _ (s .value) in
         led b sub begins (finds doc (m .keys) _ _ holds x ms (behindLength o (s .value .0)) _ _ _ (s .value .3) (s .first) (omega arith))
       where
         led : {r q : Asked Found} → 3 ≤ o → Subtree t (obj ms) → r ≡ q
@@ -298,4 +301,4 @@ module _ (doc : List ℕ) (t : Tree) (m : Means doc t) (words : List ℕ) (roomy
     pub first-member-wrong : (u : Tree) (x : List ℕ) → StandsFor doc (m .keys) o u → NoObject u
         → ask (firstMember doc (checked doc words .words) (checked doc words .count) o x) ≡ refuses 21 o
     unfolding firstMember
-    first-member-wrong u x s n = asked doc (opens doc t m) o _ u _ _ _ (below doc t m l u s .0) (s .value) ∙ no-object doc u o _ _ _ (s .value) _ n
+    first-member-wrong u x s n = asked doc (m .opens) o _ u _ _ _ (below doc t m l u s .0) (s .value) ∙ no-object doc u o _ _ _ (s .value) _ n

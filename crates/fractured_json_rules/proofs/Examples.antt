@@ -53,7 +53,7 @@ examples =
     example (hex 4 0x464B0200) 4 (refuses 33 0) [] ∷
     example (hex 4 0x474A0100) 4 (refuses 33 0) [] ∷
     example (hex 4 0x464A1100) 4 (refuses 34 2) [] ∷
-    -- 35: type byte, length, payload, text; key byte, v_uint16, key text
+    -- 35: type byte, length, payload, text; key byte, each byte of a v_uint16, key text
     example (hex 4 0x464A019F) 4 (refuses 35 4) [] ∷
     example (hex 6 0x464A016F0461) 4 (refuses 35 6) (5 ∷ 1 ∷ []) ∷
     example (hex 5 0x464A010E00) 4 (refuses 35 3) [] ∷
@@ -61,6 +61,8 @@ examples =
     example (hex 5 0x464A011861) 4 (refuses 35 3) [] ∷
     example (hex 9 0x464A0115FFFFFFFF00) 4 (refuses 35 9) [] ∷
     example (hex 4 0x464A016F) 4 (refuses 35 4) [] ∷
+    example (hex 5 0x464A016F00) 4 (refuses 35 4) [] ∷
+    example (hex 6 0x464A016F0080) 4 (refuses 35 4) [] ∷
     example (hex 7 0x464A016F008080) 4 (refuses 35 4) [] ∷
     example (hex 6 0x464A016F0561) 4 (refuses 35 4) [] ∷
     -- 36: type byte, key byte
@@ -165,10 +167,17 @@ line doc table count question says = record { doc = doc; table = table; count = 
 
 abbrev lines : List Line
 lines =
-    -- 20: a cursor under 3; the header before it; 35 past the end
+    -- 20: a cursor under 3; the header before it
     line (hex 3 0x464A01) [] 0 (kindAt 3) (refused 31 3) ∷
     line (hex 4 0x464A0100) [] 0 (kindAt 2) (refused 20 2) ∷
+    -- 35: a cursor past the end, to every question
+    line (hex 4 0x464A0100) [] 0 (endAt 4) (refused 35 4) ∷
     line (hex 4 0x464A0100) [] 0 (kindAt 4) (refused 35 4) ∷
+    line (hex 4 0x464A0100) [] 0 (numberAt 4) (refused 35 4) ∷
+    line (hex 4 0x464A0100) [] 0 (stringAt 4) (refused 35 4) ∷
+    line (hex 4 0x464A0100) [] 0 (elementAt 4 0) (refused 35 4) ∷
+    line (hex 4 0x464A0100) [] 0 (memberAt 4 0) (refused 35 4) ∷
+    line (hex 4 0x464A0100) [] 0 (firstMemberOf 4 []) (refused 35 4) ∷
     -- 21 and 22, each in its place
     line (hex 5 0x464A010E00) [] 0 (elementAt 3 0) (refused 21 3) ∷
     line (hex 4 0x464A01FE) [] 0 (elementAt 3 0) (refused 36 3) ∷
@@ -238,6 +247,7 @@ lines =
     line (hex 4 0x464A01A0 ++ replicate 31 0x9F ++ hex 2 0x9E00) [] 0 (elementAt 3 1) (refused 41 35) ∷
     line (hex 4 0x464A01A0 ++ replicate 30 0x9F ++ hex 2 0x9E00) [] 0 (elementAt 3 1) (placeIs 35) ∷
     -- member j: its own key is read
+    line (hex 4 0x464A016F) [] 0 (memberAt 3 0) (refused 35 4) ∷
     line (hex 7 0x464A016F046102) [] 0 (memberAt 3 0) (placesAre 4 6) ∷
     line (hex 9 0x464A01700461005701) (5 ∷ 1 ∷ []) 1 (memberAt 3 1) (placesAre 7 8) ∷
     line (hex 9 0x464A0170046100AB00) [] 0 (memberAt 3 0) (placesAre 4 6) ∷

@@ -1,12 +1,13 @@
 -- The lent key table: the check never passes more keys than there is room for, refused or not; so each key passed has its
 -- pair, and all other words keep what they held.
-use Prim.Native.Nat.{ℕ, zero, suc, _+_, _*_, _≤_, _<_}
+use Prim.Native.Nat.{ℕ, zero, suc, _+_, _-_, _*_, _≤_, _<_}
 use mathlib.Core.Bool.{Bool, true, false}
 use mathlib.Core.List.{List, [], _∷_, _++_}
-use mathlib.Core.Path.{_≡_, refl}
+use mathlib.Core.Path.{_≡_, refl, ap, _∙_}
 use native.Mathlib.Omega.{arith}
 use lib.Dec.{T, ltb, ltb→lt}
-use lib.ListN.{length, getD, length-append, length-drop}
+use lib.ListN.{length, getD, drop, length-append, length-drop}
+use lib.Seq.{getD-append-add, getD-drop}
 use Rattle.json.specs.Limits.{deepest}
 use Rattle.json.specs.Reading.{Outcome, halt, done, Reading, follow, _>>=_, need}
 use Rattle.fractured_json_rules.specs.ByteTables.{Len, tiny, behind, Form, fNull, fBool, fInt, fFloat, fTiny, fString, fObject, fArray, fReserved, formOf}
@@ -18,17 +19,12 @@ use Rattle.fractured_json_rules.specs.KeyTable.{roomOf, pairs, stored, k
 use Rattle.fractured_json_rules.specs.TreeOf.{keysOf}
 use Rattle.fractured_json_rules.proofs.Readers.{kept-is, keep-is}
 
--- the keys passed, however a reading ends
-abbrev left : {A : Type 0} → Outcome Keys A → Keys
-left (halt number place ks) = ks
-left (done a ks) = ks
-
 module _ (room : ℕ) where
   -- a reading that passes no more keys than there is room for
   abbrev Keeps : {A : Type 0} → Reading Keys A → Type 0
-  Keeps m = (ks : Keys) → length ks ≤ room → length (left (m ks)) ≤ room
+  Keeps m = (ks : Keys) → length ks ≤ room → length (keysOf (m ks)) ≤ room
 
-  follows : {A B : Type 0} (r : Outcome Keys A) (f : A → Reading Keys B) → length (left r) ≤ room → ((a : A) → Keeps (f a)) → length (left (follow r f)) ≤ room
+  follows : {A B : Type 0} (r : Outcome Keys A) (f : A → Reading Keys B) → length (keysOf r) ≤ room → ((a : A) → Keeps (f a)) → length (keysOf (follow r f)) ≤ room
   unfolding follow
   follows (halt n p ks) f h k = h
   follows (done a ks) f h k = k a ks h
@@ -43,8 +39,8 @@ module _ (room : ℕ) where
   keeps-need false n p ks h = h
 
   -- a test, and what is known behind it
-  keeps-test : {B : Type 0} (t : Bool) (n p : ℕ) (f : Unit {0} → Reading Keys B) (ks : Keys) → length ks ≤ room → (T t → length (left (f tt ks)) ≤ room)
-      → length (left ((need t n p >>= f) ks)) ≤ room
+  keeps-test : {B : Type 0} (t : Bool) (n p : ℕ) (f : Unit {0} → Reading Keys B) (ks : Keys) → length ks ≤ room → (T t → length (keysOf (f tt ks)) ≤ room)
+      → length (keysOf ((need t n p >>= f) ks)) ≤ room
   unfolding _>>=_ follow need
   keeps-test true n p f ks h k = k tt
   keeps-test false n p f ks h k = h
@@ -138,13 +134,9 @@ module _ (room : ℕ) where
     unfolding check
     keeps-check = keeps-then _ _ keeps-header λ _. keeps-then _ _ (keeps-value deepest 3) λ past. keeps-need _ _ _
 
-left-keys : (r : Outcome Keys (Unit {0})) → left r ≡ keysOf r
-left-keys (halt n p ks) = refl
-left-keys (done u ks) = refl
-
 -- the keys passed are at most the room, refused or not
 pub passed-room : (room : ℕ) (doc : List ℕ) → length (keysOf (verdict room doc)) ≤ room
-passed-room room doc = rw (← left-keys (verdict room doc)) (keeps-check room doc [] (omega arith))
+passed-room room doc = keeps-check room doc [] (omega arith)
 
 -- ---- the words afterwards
 
@@ -172,13 +164,10 @@ pub stored-pair : (ks : Keys) (words : List ℕ) (j : ℕ) → j < length ks →
 unfolding stored
 stored-pair ks words j h = pair-at ks _ j h
 
-pub stored-other : (ks : Keys) (words : List ℕ) (i : ℕ) → 2 * length ks ≤ length words → 2 * length ks ≤ i → getD (stored ks words) i 0 ≡ getD words i 0
+pub stored-other : (ks : Keys) (words : List ℕ) (i : ℕ) → 2 * length ks ≤ i → getD (stored ks words) i 0 ≡ getD words i 0
 unfolding stored
-stored-other [] words i h k = refl
-stored-other (x ∷ ks) [] i h k = absurd (omega arith)
-stored-other (x ∷ ks) (a ∷ []) i h k = absurd (omega arith)
-stored-other (x ∷ ks) (a ∷ b ∷ words) zero h k = absurd (omega arith)
-stored-other (x ∷ ks) (a ∷ b ∷ words) (suc zero) h k = absurd (omega arith)
-stored-other (x ∷ ks) (a ∷ b ∷ words) (suc (suc i)) h k =
-    let e : 2 * suc (length ks) ≡ suc (suc (2 * length ks)) = omega arith in
-    rw e (stored-other ks words i (omega arith) (omega arith))
+stored-other ks words i h =
+    let n = pairs-length ks in
+    let at : i ≡ length (pairs ks) + (i - 2 * length ks) = omega arith in
+    let back : 2 * length ks + (i - 2 * length ks) ≡ i = omega arith in
+    ap (λ j. getD (pairs ks ++ drop (2 * length ks) words) j 0) at ∙ (getD-append-add (pairs ks) _ _ 0 ∙ rw (getD-drop, back))

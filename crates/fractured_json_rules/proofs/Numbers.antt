@@ -4,6 +4,7 @@ use mathlib.Core.Bool.{Bool, true, false, not}
 use mathlib.Core.List.{List, [], _∷_}
 use mathlib.Core.Path.{_≡_, refl, sym, ap, _∙_, subst}
 use native.Mathlib.Omega.{arith}
+use borrow.Author.Tests.{lt-ltb, le-ltb}
 use lib.Dec.{T, ltb, ltb→lt, nltb→le}
 use lib.ListN.{getD}
 use Rattle.json.specs.Choose.{choose}
@@ -12,17 +13,16 @@ use Rattle.json.specs.Tree.{num}
 use Rattle.fractured_json_rules.specs.ByteTables.{Width, one, two, four, eight, bytes, Form, fNull, fBool, fInt, fFloat, fTiny, fString, fObject, fArray, fReserved, firstForms, formOf}
 use Rattle.fractured_json_rules.specs.Meaning.{tinyTree}
 use Rattle.fractured_json_rules.specs.Questions.{extended, tinyBits}
-use Rattle.fractured_json_rules.proofs.Readers.{ltb-yes, ltb-no}
 
 -- ---- two ways to choose
 
 lower : {A : Type 0} (a b : ℕ) (x y : A) → a < b → choose (ltb a b) x y ≡ x
 unfolding choose
-lower a b x y h = rw (ltb-yes a b h)
+lower a b x y h = rw (lt-ltb a b h)
 
 upper : {A : Type 0} (a b : ℕ) (x y : A) → b ≤ a → choose (ltb a b) x y ≡ y
 unfolding choose
-upper a b x y h = rw (ltb-no a b h)
+upper a b x y h = rw (le-ltb a b h)
 
 by-order : (P : Type 0) (a b : ℕ) → (a < b → P) → (b ≤ a → P) → P
 by-order P a b f g = go (ltb a b) (ltb→lt a b) (nltb→le a b)
@@ -50,7 +50,7 @@ extends k n a b c h =
     (λ g. let e : 2 ^ 64 - (n + (2 ^ 64 - 2 ^ k)) ≡ 2 ^ k - n = omega arith in
     rw (upper n (2 ^ (k - 1)) n (n + (2 ^ 64 - 2 ^ k)) g) (signed-high 64 (n + (2 ^ 64 - 2 ^ k)) (omega arith) ∙ (ap (λ m. num true (scaled m)) e ∙ sym (signed-high k n g))))
 
-pub int-value : (w : Width) (n : ℕ) → n < 256 ^ bytes w → signedTree 64 (extended true w n) ≡ signedTree (8 * bytes w) n
+pub int-value : (w : Width) (n : ℕ) → n < 256 ^ bytes w → signedTree 64 (extended true (bytes w) n) ≡ signedTree (8 * bytes w) n
 int-value one n h = extends 8 n (omega arith) (omega arith) (omega arith) (omega arith)
 int-value two n h = extends 16 n (omega arith) (omega arith) (omega arith) (omega arith)
 int-value four n h = extends 32 n (omega arith) (omega arith) (omega arith) (omega arith)

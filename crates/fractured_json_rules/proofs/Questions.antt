@@ -8,18 +8,17 @@ use lib.Dec.{le→leb}
 use lib.ListN.{length, getD, length-take, length-drop}
 use Rattle.json.specs.Bytes.{Bytes, number, part}
 use Rattle.json.specs.Reading.{Reading, _>>=_, ask, answers, refuses}
-use Rattle.json.specs.Span.{Span}
 use Rattle.json.specs.Tree.{Tree, null, bool, num, str, arr, obj, Trees, Members, size, sizem, NoNumber, NoString, NoArray, NoObject}
 use Rattle.json.proofs.Bytes.{number-small}
 use Rattle.json.proofs.Reading.{then, pass, need-yes}
 use Rattle.fractured_json_rules.specs.ByteTables.{bytes, formOf}
-use Rattle.fractured_json_rules.specs.Meaning.{behindLength, NumberIs, asTiny, asInt, asFloat, Keys, ValueIs}
+use Rattle.fractured_json_rules.specs.Meaning.{behindLength, TextIs, NumberIs, asTiny, asInt, asFloat, Keys, ValueIs, Opens}
 use Rattle.fractured_json_rules.specs.Verdict.{byteAt}
-use Rattle.fractured_json_rules.specs.Questions.{opening, kindBy, Bits, extended, tinyBits, numberBy, stringBy, arrayBy, objectBy}
+use Rattle.fractured_json_rules.specs.Questions.{opening, kindBy, extended, tinyBits, numberBy, stringBy, arrayBy, objectBy}
 use Rattle.fractured_json_rules.specs.Answers.{kindOf, valueBy, valueOf}
 use Rattle.fractured_json_rules.proofs.Nodes.{value-form}
 use Rattle.fractured_json_rules.proofs.Numbers.{int-value, tiny-value, tiny-byte}
-use Rattle.fractured_json_rules.proofs.Readers.{Opens, header-is, byte-is, payload-is, length-is}
+use Rattle.fractured_json_rules.proofs.Readers.{header-is, byte-is, payload-is, length-is}
 
 module _ (doc : List ℕ) where
   value-inside : (u : Tree) (o : ℕ) (ks : Keys) (e : ℕ) (kz : Keys) → ValueIs doc u o ks e kz → o < length doc
@@ -34,6 +33,9 @@ module _ (doc : List ℕ) where
   value-inside (str t) o ks e kz h = h .2 .inside
   value-inside (arr ts) o ks e kz h = h .1 .inside
   value-inside (obj ms) o ks e kz h = h .1 .inside
+
+  text-length : (t : List ℕ) (o n : ℕ) → TextIs doc o n t → length t ≡ n
+  text-length t o n h = let fits = h .inside in rw (h .same, length-take, length-drop) (omega arith)
 
   pub opening-is : Opens doc → (o : ℕ) → 3 ≤ o → ask (opening doc o) ≡ answers tt
   unfolding opening
@@ -59,42 +61,43 @@ module _ (doc : List ℕ) where
   kind-is (bool true) o ks e kz h = rw (h .0 .form-is)
   kind-is (num s m) o ks e kz h = number-kind s m o e (h .0)
   kind-is (str t) o ks e kz h =
-      let fits = h .4 .inside in
-      let len : length t ≡ h .1 = rw (h .4 .same, length-take, length-drop) (omega arith) in
-      rw (h .2 .form-is, len) (then _ _ tt (length-is doc o (h .0) (h .1) tt (h .3)))
+      rw (h .2 .form-is, text-length t _ _ (h .4)) (then _ _ tt (length-is doc o (h .0) (h .1) tt (h .3)))
   kind-is (arr ts) o ks e kz h = rw (h .1 .form-is) (then _ _ tt (length-is doc o (h .0) (size ts) tt (h .2)))
   kind-is (obj ms) o ks e kz h = rw (h .1 .form-is) (then _ _ tt (length-is doc o (h .0) (sizem ms) tt (h .2)))
 
   -- ---- its number
 
   pub number-is : Bytes doc → (s : Bool) (m o e : ℕ) → NumberIs doc (num s m) o e
-      → (b : Bits) × (ask (numberBy doc o (getD doc o 0) (formOf (getD doc o 0))) ≡ answers b) × (valueOf b ≡ num s m)
+      → (n : ℕ) × (ask (numberBy doc o (getD doc o 0) (formOf (getD doc o 0))) ≡ answers (record { type = getD doc o 0; bits = n }))
+      × (valueOf (record { type = getD doc o 0; bits = n }) ≡ num s m)
   unfolding numberBy valueBy
   number-is bs s m o e (asTiny b st p q) =
       let same = tiny-byte (getD doc o 0) b (st .form-is) in
       let small = bs o in
-      (record { type = getD doc o 0; bits = tinyBits b }, rw (st .form-is), rw (st .form-is) (tiny-value b (omega arith) ∙ sym p))
+      (tinyBits b, rw (st .form-is), rw (st .form-is) (tiny-value b (omega arith) ∙ sym p))
   number-is bs s m o e (asInt true w st i p q) =
       let n = number doc (o + 1) (bytes w) in (
-        record { type = getD doc o 0; bits = extended true w n },
+        extended true (bytes w) n,
         rw (st .form-is) (then _ _ tt (payload-is doc o (bytes w) tt i)),
         rw (st .form-is) (int-value w n (number-small doc bs (o + 1) (bytes w)) ∙ sym p),
       )
   number-is bs s m o e (asInt false w st i p q) =
-      (record { type = getD doc o 0; bits = number doc (o + 1) (bytes w) }, rw (st .form-is) (then _ _ tt (payload-is doc o (bytes w) tt i)), rw (st .form-is) (sym p))
+      (number doc (o + 1) (bytes w), rw (st .form-is) (then _ _ tt (payload-is doc o (bytes w) tt i)), rw (st .form-is) (sym p))
   number-is bs s m o e (asFloat f w st i n p q) =
-      (record { type = getD doc o 0; bits = number doc (o + 1) (bytes w) }, rw (st .form-is) (then _ _ tt (payload-is doc o (bytes w) tt i) ∙ pass _ _ _ _ tt n), rw (st .form-is) (sym p))
+      (number doc (o + 1) (bytes w), rw (st .form-is) (then _ _ tt (payload-is doc o (bytes w) tt i) ∙ pass _ _ _ _ tt n), rw (st .form-is) (sym p))
 
   -- ---- its string
 
   pub string-is : (t : List ℕ) (o : ℕ) (ks : Keys) (e : ℕ) (kz : Keys) → ValueIs doc (str t) o ks e kz
-      → (s : Span) × (ask (stringBy doc o (formOf (getD doc o 0))) ≡ answers s) × (part doc (s .place) (s .len) ≡ t)
+      → (p : ℕ) × (ask (stringBy doc o (formOf (getD doc o 0))) ≡ answers (record { place = p; len = length t })) × (part doc p (length t) ≡ t) × (p + length t ≡ e)
   unfolding stringBy
-  string-is t o ks e kz h = (
-    record { place = behindLength o (h .0); len = h .1 },
-    rw (h .2 .form-is) (then _ _ tt (length-is doc o (h .0) (h .1) tt (h .3)) ∙ pass _ _ _ _ tt (le→leb _ _ (h .4 .inside))),
-    sym (h .4 .same),
-  )
+  string-is t o ks e kz h =
+      let len = text-length t _ _ (h .4) in (
+        behindLength o (h .0),
+        rw (h .2 .form-is, len) (then _ _ tt (length-is doc o (h .0) (h .1) tt (h .3)) ∙ pass _ _ _ _ tt (le→leb _ _ (h .4 .inside))),
+        rw len (sym (h .4 .same)),
+        rw len (sym (h .5)),
+      )
 
   -- ---- the wrong kind
 

@@ -5,14 +5,15 @@ use mathlib.Core.Bool.{Bool, true, false, not}
 use mathlib.Core.List.{List}
 use mathlib.Core.Path.{_≡_, refl, sym, _∙_}
 use native.Mathlib.Omega.{arith}
+use borrow.Author.Tests.{lt-ltb, le-ltb}
 use lib.Dec.{T, ltb, leb, leb→le, ltb→lt, nltb→le, le→leb, lt→ltb, eqb→eq}
 use lib.ListN.{length, getD}
 use Rattle.json.specs.Bytes.{number}
-use Rattle.json.specs.Limits.{leastFractured, longest}
 use Rattle.json.specs.Reading.{Reading, done, answer, kept, keep, _>>=_, follow, need}
 use Rattle.json.proofs.Reading.{halt≢done, done-kept, passed, then, pass, need-yes, assoc}
 use Rattle.fractured_json_rules.specs.ByteTables.{bytes, Len, tiny, behind, Index, inByte, spelled}
 use Rattle.fractured_json_rules.specs.Meaning.{LengthIs, Spelled, oneByte, twoBytes, threeBytes, IndexIs}
+pub use Rattle.fractured_json_rules.specs.Meaning.{Opens}
 use Rattle.fractured_json_rules.specs.Verdict.{header, byteAt, payload, lengthAt, Counted, counted, afterSecond, afterFirst, indexAt}
 
 -- ---- what is kept, read and replaced at the head of a chain
@@ -48,14 +49,6 @@ unfolding need
 last-test true n p s e = (tt, done-kept e)
 last-test false n p s e = absurd (halt≢done e)
 
--- what 31 to 34 ask for
-pub record Opens (doc : List ℕ) : Type 0 where
-  pub long : leastFractured ≤ length doc
-  pub short : length doc ≤ longest
-  pub magic0 : getD doc 0 0 ≡ 0x46
-  pub magic1 : getD doc 1 0 ≡ 0x4A
-  pub config : getD doc 2 0 ≡ 0x01
-
 module _ {S B : Type 0} (doc : List ℕ) where
   pub header-step : (f : Unit {0} → Reading S B) (s : S) {b : B} {z : S} → (header doc >>= f) s ≡ done b z → Opens doc × (f tt s ≡ done b z)
   unfolding header
@@ -89,7 +82,7 @@ module _ {S B : Type 0} (doc : List ℕ) where
   unfolding afterSecond
   second-step o true p q i h f s e = (_, _, twoBytes i h (p tt) refl refl, answered _ f s e)
   second-step o false p q i h f s e =
-      let r = byte-step (o + 3) o _ s (along _ _ f s e) in
+      let r = byte-step (o + 3) _ _ s (along _ _ f s e) in
       let t = tested (leb (getD doc (o + 3) 0) 3) _ _ _ f s (r .1) in
       (_, _, threeBytes (r .0) h (q tt) (leb→le _ _ (t .0)) refl refl, t .1)
 
@@ -99,7 +92,7 @@ module _ {S B : Type 0} (doc : List ℕ) where
   unfolding afterFirst
   first-step o true p q i f s e = (_, _, oneByte i (p tt) refl refl, answered _ f s e)
   first-step o false p q i f s e =
-      let r = byte-step (o + 2) o _ s (along _ _ f s e) in
+      let r = byte-step (o + 2) _ _ s (along _ _ f s e) in
       second-step o (ltb (getD doc (o + 2) 0) 128) (ltb→lt _ _) (nltb→le _ _) (r .0) (q tt) f s (r .1)
 
   pub index-step : (o : ℕ) (x : Index) (f : Counted → Reading S B) (s : S) {b : B} {z : S} → (indexAt doc o x >>= f) s ≡ done b z
@@ -107,24 +100,10 @@ module _ {S B : Type 0} (doc : List ℕ) where
   unfolding indexAt
   index-step o (inByte n) f s e = (n, o + 1, (refl, refl), answered _ f s e)
   index-step o spelled f s e =
-      let r = byte-step (o + 1) o _ s (along _ _ f s e) in
+      let r = byte-step (o + 1) _ _ s (along _ _ f s e) in
       first-step o (ltb (getD doc (o + 1) 0) 128) (ltb→lt _ _) (nltb→le _ _) (r .0) f s (r .1)
 
 -- ---- what stands there is answered
-
-pub ltb-yes : (a b : ℕ) → a < b → ltb a b ≡ true
-ltb-yes a b h = go (ltb a b) (nltb→le a b)
-  where
-    go : (l : Bool) → (T (not l) → b ≤ a) → l ≡ true
-    go true n = refl
-    go false n = let m = n tt in absurd (omega arith)
-
-pub ltb-no : (a b : ℕ) → b ≤ a → ltb a b ≡ false
-ltb-no a b h = go (ltb a b) (ltb→lt a b)
-  where
-    go : (l : Bool) → (T l → a < b) → l ≡ false
-    go true n = let m = n tt in absurd (omega arith)
-    go false n = refl
 
 module _ {S : Type 0} (doc : List ℕ) where
   pub header-is : (s : S) → Opens doc → header doc s ≡ done tt s
@@ -149,15 +128,15 @@ module _ {S : Type 0} (doc : List ℕ) where
   spelled-is : (o n e : ℕ) (s : S) → Spelled doc o n e → indexAt doc o spelled s ≡ done (counted n e) s
   unfolding indexAt afterFirst afterSecond
   spelled-is o n e s (oneByte i b p q) =
-      then _ _ s (byte-is (o + 1) o s i) ∙ rw (ltb-yes _ _ b, p, q)
+      then _ _ s (byte-is (o + 1) _ s i) ∙ rw (lt-ltb _ _ b, p, q)
   spelled-is o n e s (twoBytes i b0 b1 p q) =
       let j : o + 1 < length doc = omega arith in
-      then _ _ s (byte-is (o + 1) o s j) ∙ rw (ltb-no _ _ b0) (then _ _ s (byte-is (o + 2) o s i) ∙ rw (ltb-yes _ _ b1, p, q))
+      then _ _ s (byte-is (o + 1) _ s j) ∙ rw (le-ltb _ _ b0) (then _ _ s (byte-is (o + 2) _ s i) ∙ rw (lt-ltb _ _ b1, p, q))
   spelled-is o n e s (threeBytes i b0 b1 b2 p q) =
       let j : o + 1 < length doc = omega arith in
       let k : o + 2 < length doc = omega arith in
-      then _ _ s (byte-is (o + 1) o s j) ∙ rw (ltb-no _ _ b0) (then _ _ s (byte-is (o + 2) o s k) ∙ rw (ltb-no _ _ b1)
-      (then _ _ s (byte-is (o + 3) o s i) ∙ rw (p, q) (pass _ _ _ _ s (le→leb _ _ b2))))
+      then _ _ s (byte-is (o + 1) _ s j) ∙ rw (le-ltb _ _ b0) (then _ _ s (byte-is (o + 2) _ s k) ∙ rw (le-ltb _ _ b1)
+      (then _ _ s (byte-is (o + 3) _ s i) ∙ rw (p, q) (pass _ _ _ _ s (le→leb _ _ b2))))
 
   pub index-is : (o : ℕ) (x : Index) (n e : ℕ) (s : S) → IndexIs doc o x n e → indexAt doc o x s ≡ done (counted n e) s
   unfolding indexAt

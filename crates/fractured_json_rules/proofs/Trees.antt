@@ -4,6 +4,7 @@ use Prim.Native.Nat.{ℕ, zero, suc, _≤_}
 use mathlib.Core.List.{List}
 use mathlib.Core.Path.{_≡_, refl, sym, ap, _∙_}
 use native.Mathlib.Omega.{arith}
+use borrow.Author.Tests.{lt-ltb, le-ltb}
 use Rattle.json.specs.Choose.{choose}
 use Rattle.json.specs.Tree.{Tree, null, bool, num, str, arr, obj, Trees, none, more, Members, end, member, depth, depths, depthm, size, sizem}
 use Rattle.fractured_json_rules.specs.ByteTables.{Len, tiny, behind, Form, fNull, fBool, fInt, fFloat, fTiny, fString, Index, inByte, spelled}
@@ -13,7 +14,6 @@ use Rattle.fractured_json_rules.specs.Verdict.{counted}
 use Rattle.fractured_json_rules.specs.TreeOf.{lengthIn, spelledIn, indexIn, keyEnd, steps, endBy, endAt, keyTextAt, valueTrees, memberTrees, treeBy, treeAt}
 use Rattle.fractured_json_rules.specs.Leads.{FirstOf}
 use Rattle.fractured_json_rules.proofs.Keys.{first-trans, first-key, grows, grows-all, grows-members}
-use Rattle.fractured_json_rules.proofs.Readers.{ltb-yes, ltb-no}
 
 module _ (doc : List ℕ) where
   -- ---- lengths, key numbers and keys
@@ -25,9 +25,9 @@ module _ (doc : List ℕ) where
   index-in : (o : ℕ) (x : Index) (n e : ℕ) → IndexIs doc o x n e → indexIn doc o x ≡ counted n e
   unfolding spelledIn choose
   index-in o (inByte k) n e h = rw (h .0, h .1)
-  index-in o spelled n e (oneByte i b p q) = rw (ltb-yes _ _ b, p, q)
-  index-in o spelled n e (twoBytes i b0 b1 p q) = rw (ltb-no _ _ b0, ltb-yes _ _ b1, p, q)
-  index-in o spelled n e (threeBytes i b0 b1 b2 p q) = rw (ltb-no _ _ b0, ltb-no _ _ b1, p, q)
+  index-in o spelled n e (oneByte i b p q) = rw (lt-ltb _ _ b, p, q)
+  index-in o spelled n e (twoBytes i b0 b1 p q) = rw (le-ltb _ _ b0, lt-ltb _ _ b1, p, q)
+  index-in o spelled n e (threeBytes i b0 b1 b2 p q) = rw (le-ltb _ _ b0, le-ltb _ _ b1, p, q)
 
   pub key-ends : (t : List ℕ) (o : ℕ) (ks : Keys) (e : ℕ) (kz : Keys) → KeyIs doc t o ks e kz → keyEnd doc o ≡ e
   unfolding keyEnd

@@ -17,7 +17,7 @@ kindOf (str t) = isString (length t)
 kindOf (obj ms) = isObject (sizem ms)
 kindOf (arr ts) = isArray (size ts)
 
--- signed and tiny ints are two's complement of 64 bits; a form that is no number has no value
+-- signed and tiny ints are two's complement of 64 bits; a form that is no number stands as null here, which no number is
 unfoldable pub valueBy : Form → ℕ → Tree
 valueBy fNull bits = null
 valueBy (fBool b) bits = null

@@ -60,7 +60,8 @@ formOf b =
 
 -- ---- key bytes
 
--- a key's number: in the key byte itself, or as a v_uint16 behind it
+-- the number that a key byte carries, in itself or as a v_uint16 behind it: of an immediate key its text's length, of any
+-- other an index
 pub data Index : Type 0 where
   inByte : ℕ → Index
   spelled : Index

@@ -25,13 +25,13 @@ pub data Leads (doc : List ℕ) : ℕ → Type 0 where
 
 -- ---- what a value stands for
 
--- met are the first of the keys ks
+-- the keys met are a first part of the keys ks
 pub record FirstOf (met ks : Keys) : Type 0 where
   pub rest : Keys
   pub same : ks ≡ met ++ rest
 
--- The value at o stands for the tree u, in a document whose immediate keys are ks; some first of them are met before the
--- value, and some up to its end.
+-- The value at o stands for the tree u and ends at `past`. The document's immediate keys are ks: `before` are those met before
+-- the value, `met` those met up to its end, a first part of ks.
 pub record StandsFor (doc : List ℕ) (ks : Keys) (o : ℕ) (u : Tree) : Type 0 where
   pub before : Keys
   pub past : ℕ

@@ -70,7 +70,7 @@ pub data Spelled (doc : List ℕ) (o n e : ℕ) : Type 0 where
   threeBytes : o + 3 < length doc → 128 ≤ getD doc (o + 1) 0 → 128 ≤ getD doc (o + 2) 0 → getD doc (o + 3) 0 ≤ 3
       → n ≡ getD doc (o + 1) 0 - 128 + 128 * (getD doc (o + 2) 0 - 128) + 16_384 * getD doc (o + 3) 0 → e ≡ o + 4 → Spelled doc o n e
 
--- the number of the key at o is n, and ends at e
+-- the number that the key byte at o carries is n, and ends at e
 abbrev pub IndexIs : List ℕ → ℕ → Index → ℕ → ℕ → Type 0
 IndexIs doc o (inByte k) n e = (n ≡ k) × (e ≡ o + 1)
 IndexIs doc o spelled n e = Spelled doc o n e
@@ -127,13 +127,17 @@ abbrev mutual
 
 -- ---- the whole document: bytes 46 4A, config 01, one value, end
 
--- The document keeps the rules of the format and means the tree t; `keys` are its immediate keys.
-pub record Means (doc : List ℕ) (t : Tree) : Type 0 where
+-- a good length, and the three bytes before the value
+pub record Opens (doc : List ℕ) : Type 0 where
   pub long : leastFractured ≤ length doc
   pub short : length doc ≤ longest
   pub magic0 : getD doc 0 0 ≡ 0x46
   pub magic1 : getD doc 1 0 ≡ 0x4A
   pub config : getD doc 2 0 ≡ 0x01
+
+-- The document keeps the rules of the format and means the tree t; `keys` are its immediate keys.
+pub record Means (doc : List ℕ) (t : Tree) : Type 0 where
+  pub opens : Opens doc
   pub keys : Keys
   pub root : ValueIs doc t 3 [] (length doc) keys
   pub nested : depth t ≤ deepest

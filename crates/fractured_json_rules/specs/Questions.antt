@@ -15,9 +15,9 @@ use Rattle.json.specs.Number.{finite}
 use Rattle.json.specs.Reading.{Reading, answer, refuse, ask, _>>=_, _>>_, need}
 use Rattle.json.specs.Span.{Span, spanned}
 use Rattle.json.specs.Texts.{compareTexts, isEqual}
-use Rattle.fractured_json_rules.specs.ByteTables.{Width, bytes, Form, fNull, fBool, fInt, fFloat, fTiny, fString, fObject, fArray, fReserved, formOf, KeyForm, immediate, backReference, globalIndex, kReserved, keyFormOf}
+use Rattle.fractured_json_rules.specs.ByteTables.{bytes, Form, fNull, fBool, fInt, fFloat, fTiny, fString, fObject, fArray, fReserved, formOf, KeyForm, keyFormOf}
 use Rattle.fractured_json_rules.specs.Meaning.{keyText, behindLength}
-use Rattle.fractured_json_rules.specs.Verdict.{header, byteAt, payload, lengthAt, Counted, indexAt, inTurn, member, value}
+use Rattle.fractured_json_rules.specs.Verdict.{header, byteAt, payload, lengthAt, Counted, inTurn, member, value, keyBy}
 use Rattle.fractured_json_rules.specs.KeyTable.{roomOf, keyOf}
 
 -- ---- before every question, asked at the cursor c
@@ -48,16 +48,7 @@ backKey doc words count o n = do
   answer (record { bytes = keyText doc (keyOf words (n .is)); past = n .past })
 
 unfoldable pub readKeyBy : {S : Type 0} → List ℕ → List ℕ → ℕ → ℕ → KeyForm → Reading S KeyRead
-readKeyBy doc words count o (immediate x) = do
-  n ← indexAt doc o x
-  textKey doc o n
-readKeyBy doc words count o (backReference x) = do
-  n ← indexAt doc o x
-  backKey doc words count o n
-readKeyBy doc words count o (globalIndex x) = do
-  _ ← indexAt doc o x
-  refuse 38 o
-readKeyBy doc words count o kReserved = refuse 36 o
+readKeyBy doc words count o form = keyBy doc o (textKey doc o) (backKey doc words count o) form
 
 unfoldable pub readKey : {S : Type 0} → List ℕ → List ℕ → ℕ → ℕ → Reading S KeyRead
 readKey doc words count o = do
@@ -121,9 +112,9 @@ pub record Bits : Type 0 where
   pub type : ℕ
   pub bits : ℕ
 
--- signed and tiny ints extended by sign, all others by zeros
-abbrev pub extended : Bool → Width → ℕ → ℕ
-extended true w n = choose (ltb n (2 ^ (8 * bytes w - 1))) n (n + (2 ^ 64 - 2 ^ (8 * bytes w)))
+-- signed and tiny ints extended by sign, all others by zeros; an int has w bytes
+abbrev pub extended : Bool → ℕ → ℕ → ℕ
+extended true w n = choose (ltb n (2 ^ (8 * w - 1))) n (n + (2 ^ 64 - 2 ^ (8 * w)))
 extended false w n = n
 
 abbrev pub tinyBits : ℕ → ℕ
@@ -134,7 +125,7 @@ numberBy doc c b fNull = refuse 21 c
 numberBy doc c b (fBool x) = refuse 21 c
 numberBy doc c b (fInt s w) = do
   n ← payload doc c (bytes w)
-  answer (record { type = b; bits = extended s w n })
+  answer (record { type = b; bits = extended s (bytes w) n })
 numberBy doc c b (fFloat f w) = do
   n ← payload doc c (bytes w)
   need (finite f n) 43 c

@@ -27,7 +27,7 @@ spelledIn o b0 b1 b2 =
     (choose (ltb b1 128) (counted (b0 - 128 + 128 * b1) (o + 3))
     (counted (b0 - 128 + 128 * (b1 - 128) + 16_384 * b2) (o + 4)))
 
--- the number of a key at o, and where that ends
+-- the number that the key byte at o carries, and where that ends
 abbrev pub indexIn : List ℕ → ℕ → Index → Counted
 indexIn doc o (inByte n) = counted n (o + 1)
 indexIn doc o spelled = spelledIn o (getD doc (o + 1) 0) (getD doc (o + 2) 0) (getD doc (o + 3) 0)
@@ -98,10 +98,10 @@ unfoldable pub treeAt : ℕ → List ℕ → Keys → ℕ → Tree
 treeAt zero doc ks o = treeBy doc ks (λ m. null) (λ m. m) o (formOf (getD doc o 0))
 treeAt (suc levels) doc ks o = treeBy doc ks (treeAt levels doc ks) (endAt levels doc) o (formOf (getD doc o 0))
 
--- the keys that a check passed
-abbrev pub keysOf : Outcome Keys (Unit {0}) → Keys
+-- the keys passed, however a reading ends
+abbrev pub keysOf : {A : Type 0} → Outcome Keys A → Keys
 keysOf (halt number place ks) = ks
-keysOf (done u ks) = ks
+keysOf (done a ks) = ks
 
 -- the tree of a document whose check has room for so many keys
 unfoldable pub treeOf : ℕ → List ℕ → Tree

@@ -1,8 +1,8 @@
 -- The verdict on a Fractured JSON document: document 01, section "Numbers of refusal", second table, in the order that
 -- stands below it: 31 to 34, then reading order. At a value: 35 for the type byte, 36, 35 for length or payload, 43, 41,
--- contents. At a key: 35, 36, v_uint16 byte by byte, text 35, 39, 40, or 38. Each line `need TEST NUMBER PLACE` is one rule
--- of the table. The walk over a value is one definition for the check and for the questions: how a key is read is its
--- parameter. The check keeps the immediate keys passed, and has them at a refusal too.
+-- contents. At a key: 35, 36, v_uint16 byte by byte, text 35, 39, 40, or 38. Each `need` or `refuse` is one test of a rule,
+-- with its number and place. The walk over a value is one definition for the check and for the questions: how a key is read is
+-- its parameter. The check keeps the immediate keys passed, and has them at a refusal too.
 use Prim.Native.Nat.{ℕ, zero, suc, _+_, _-_, _*_}
 use mathlib.Core.Bool.{Bool, true, false, not}
 use mathlib.Core.List.{List, [], _∷_, _++_}
@@ -55,7 +55,7 @@ pub record Counted : Type 0 where
 abbrev pub counted : ℕ → ℕ → Counted
 counted n e = record { is = n; past = e }
 
--- behind the byte at o stand b0, b1 and perhaps a third; the last argument says whether this byte is the last
+-- behind the byte at o stand b0, b1 and perhaps a third; the last argument says whether b1 is the last
 unfoldable pub afterSecond : {S : Type 0} → List ℕ → ℕ → ℕ → ℕ → Bool → Reading S Counted
 afterSecond doc o b0 b1 true = answer (counted (b0 - 128 + 128 * b1) (o + 3))
 afterSecond doc o b0 b1 false = do
@@ -63,13 +63,14 @@ afterSecond doc o b0 b1 false = do
   need (leb b2 3) 37 (o + 3)
   answer (counted (b0 - 128 + 128 * (b1 - 128) + 16_384 * b2) (o + 4))
 
+-- b0 and perhaps more; the last argument says whether b0 is the last
 unfoldable pub afterFirst : {S : Type 0} → List ℕ → ℕ → ℕ → Bool → Reading S Counted
 afterFirst doc o b0 true = answer (counted b0 (o + 2))
 afterFirst doc o b0 false = do
   b1 ← byteAt doc (o + 2) o
   afterSecond doc o b0 b1 (ltb b1 128)
 
--- the number of the key at o
+-- the number that the key byte at o carries
 unfoldable pub indexAt : {S : Type 0} → List ℕ → ℕ → Index → Reading S Counted
 indexAt doc o (inByte n) = answer (counted n (o + 1))
 indexAt doc o spelled = do
@@ -124,6 +125,16 @@ value key (suc levels) doc o = do
   b ← byteAt doc o o
   valueBy doc o (λ n at. inTurn (value key levels doc) n at) (λ n at. inTurn (member key (value key levels doc)) n at) (formOf b)
 
+-- ---- 36 and 38: a key by its form
+
+-- `byLength` goes on with the length of an immediate key's text, `byIndex` with the index of a back reference; no global index
+-- is found yet
+abbrev pub keyBy : {S A : Type 0} → List ℕ → ℕ → (Counted → Reading S A) → (Counted → Reading S A) → KeyForm → Reading S A
+keyBy doc o byLength byIndex (immediate x) = indexAt doc o x >>= byLength
+keyBy doc o byLength byIndex (backReference x) = indexAt doc o x >>= byIndex
+keyBy doc o byLength byIndex (globalIndex x) = indexAt doc o x >>= λ _. refuse 38 o
+keyBy doc o byLength byIndex kReserved = refuse 36 o
+
 -- ---- 38, 39 and 40: a key as the check reads it, with room for so many keys
 
 -- t is the text of one of the keys
@@ -148,16 +159,7 @@ oldKey o n = do
   answer (n .past)
 
 unfoldable pub checkKeyBy : ℕ → List ℕ → ℕ → KeyForm → Reading Keys ℕ
-checkKeyBy room doc o (immediate x) = do
-  n ← indexAt doc o x
-  newKey room doc o n
-checkKeyBy room doc o (backReference x) = do
-  n ← indexAt doc o x
-  oldKey o n
-checkKeyBy room doc o (globalIndex x) = do
-  _ ← indexAt doc o x
-  refuse 38 o
-checkKeyBy room doc o kReserved = refuse 36 o
+checkKeyBy room doc o form = keyBy doc o (newKey room doc o) (oldKey o) form
 
 unfoldable pub checkKey : ℕ → List ℕ → ℕ → Reading Keys ℕ
 checkKey room doc o = do

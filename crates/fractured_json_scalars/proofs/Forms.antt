@@ -1,46 +1,25 @@
 -- The questions' rules by the form of a type byte are the code's way by what the constant tables say of it.
 use mathlib.Core.Path.{_≡_, refl}
-use mathlib.Core.Bool.{Bool, true, false, not}
+use mathlib.Core.Bool.{true, false}
 use mathlib.Core.List.{List}
-use Prim.Native.Nat.{ℕ, _+_, _-_, _≤_, _<_}
+use Prim.Native.Nat.{ℕ, _+_, _-_, _≤_}
 use native.Mathlib.Omega.{arith}
-use borrow.Author.Tests.{lt-ltb, le-ltb}
-use lib.Dec.{T, leb, ltb, ltb→lt, nltb→le}
+use lib.Dec.{leb}
 use lib.ListN.{length}
 use Rattle.json.specs.Choose.{choose}
 use Rattle.json.specs.Number.{binary32, binary64, finite}
 use Rattle.json.specs.Reading.{Reading, answer, follow, _>>=_, need}
 use Rattle.json.specs.Span.{Span}
 use Rattle.fractured_json_rules.specs.ByteTables.{Width, one, two, four, eight, bytes, Form, fNull, fBool, fInt, fFloat, fTiny, fString, fObject, fArray, fReserved}
-use Rattle.fractured_json_rules.specs.Questions.{kindBy, isString, isObject, isArray, tinyBits, numberBy, stringBy}
+use Rattle.fractured_json_rules.specs.Questions.{kindBy, isString, isObject, isArray, extended, tinyBits, numberBy, stringBy}
 use Rattle.fractured_json_values.specs.Heads.{headOf}
 use Rattle.fractured_json_values.specs.Opened.{sizedAt, finiteKind}
-use Rattle.fractured_json_scalars.specs.Asked.{wantedHead, scalarKind, sizedKind, kindHead, extendedBy, tinyBy, bitsOf, numberKind, numberHead}
+use Rattle.fractured_json_scalars.specs.Asked.{wantedHead, scalarKind, sizedKind, kindHead, bitsOf, numberKind, numberHead}
 use Rattle.fractured_json_values.proofs.Walks.{floatOf, Sound, payload-sized, length-sized}
 
--- a tiny int, by its byte and by its place in its range
-tiny-minus : (x : ℕ) → 0xBE ≤ x → x < 222 → tinyBits x ≡ tinyBy (x - 0xBE)
-unfolding choose
-tiny-minus x h l =
-    let e : ltb x 222 ≡ true = lt-ltb x 222 l in
-    let f : ltb (x - 0xBE) 32 ≡ true = lt-ltb (x - 0xBE) 32 (omega arith) in
-    let g : 222 - x ≡ 32 - (x - 0xBE) = omega arith in
-    rw (e, f, g)
-
-tiny-plus : (x : ℕ) → 222 ≤ x → tinyBits x ≡ tinyBy (x - 0xBE)
-unfolding choose
-tiny-plus x l =
-    let e : ltb x 222 ≡ false = le-ltb x 222 l in
-    let f : ltb (x - 0xBE) 32 ≡ false = le-ltb (x - 0xBE) 32 (omega arith) in
-    let g : x - 222 ≡ x - 0xBE - 32 = omega arith in
-    rw (e, f, g)
-
-tiny-bits : (x : ℕ) → 0xBE ≤ x → tinyBits x ≡ tinyBy (x - 0xBE)
-tiny-bits x h = go (ltb x 222) (ltb→lt x 222) (nltb→le x 222)
-  where
-    go : (b : Bool) → (T b → x < 222) → (T (not b) → 222 ≤ x) → tinyBits x ≡ tinyBy (x - 0xBE)
-    go true p q = tiny-minus x h (p tt)
-    go false p q = tiny-plus x (q tt)
+-- a tiny int's byte is its place in its range, from BE on
+tiny-bits : (x : ℕ) → 0xBE ≤ x → tinyBits x ≡ tinyBits (x - 0xBE + 0xBE)
+tiny-bits x h = let e : x - 0xBE + 0xBE ≡ x = omega arith in rw e
 
 module _ {S : Type 0} (doc : List ℕ) (c : ℕ) where
   -- ---- a string
@@ -99,7 +78,7 @@ module _ {S : Type 0} (doc : List ℕ) (c : ℕ) where
   number-form b fNull h s = refl
   number-form b (fBool false) h s = refl
   number-form b (fBool true) h s = refl
-  number-form b (fInt true w) h s = payload-sized doc c w (λ n past. answer (bitsOf b (extendedBy (bytes w) n))) s
+  number-form b (fInt true w) h s = payload-sized doc c w (λ n past. answer (bitsOf b (extended true (bytes w) n))) s
   number-form b (fInt false w) h s = payload-sized doc c w (λ n past. answer (bitsOf b n)) s
   number-form b (fFloat f w) h s = rw h (float-form b w s)
   number-form b (fTiny x) h s = rw (tiny-bits x (h .0))

@@ -16,10 +16,10 @@ use Rattle.json.specs.declared.Refusal.{Refusal}
 use Rattle.json.proofs.Reading.{done-answer, then, stops, pass, fail}
 use Rattle.fractured_json_rules.specs.ByteTables.{one, two, four, eight, Form, fNull, fBool, fInt, fFloat, fTiny, fString, fObject, fArray, fReserved, formOf}
 use Rattle.fractured_json_rules.specs.Verdict.{counted}
-use Rattle.fractured_json_rules.specs.Questions.{Bits, numberBy}
+use Rattle.fractured_json_rules.specs.Questions.{Bits, extended, tinyBits, numberBy}
 use Rattle.fractured_json_values.specs.Heads.{headOf}
 use Rattle.fractured_json_values.specs.Opened.{sizedAt, finiteKind, Counts, Below}
-use Rattle.fractured_json_scalars.specs.Asked.{extendedBy, tinyBy, bitsOf, numberKind, numberHead}
+use Rattle.fractured_json_scalars.specs.Asked.{bitsOf, numberKind, numberHead}
 use Rattle.fractured_json_values.specs.declared.types.Head.{Head}
 use Rattle.fractured_json_values.specs.declared.values.Counted.{Counted}
 use Rattle.json.proofs.Table.{both, split, at}
@@ -61,11 +61,11 @@ module _ (w : ℕ) (h : w ≤ 8) where
   above-fills : 256 ^ w + getD above w 0 ≡ 2 ^ 64
   above-fills = eqb→eq (256 ^ w + getD above w 0) (2 ^ 64) (above-both .1)
 
-  pub not-minus : (n : ℕ) → n < getD signed w 0 → n ≡ extendedBy w n
+  pub not-minus : (n : ℕ) → n < getD signed w 0 → n ≡ extended true w n
   unfolding choose
   not-minus n l = rw (lt-ltb n (2 ^ (8 * w - 1)) (rw signed-is at l))
 
-  pub minus : (n : ℕ) → getD signed w 0 ≤ n → n + getD above w 0 ≡ extendedBy w n
+  pub minus : (n : ℕ) → getD signed w 0 ≤ n → n + getD above w 0 ≡ extended true w n
   unfolding choose
   minus n l = rw (le-ltb n (2 ^ (8 * w - 1)) (rw signed-is at l), above-is)
 
@@ -77,24 +77,24 @@ pub ruleset extend-laws = (not-minus, minus, extended-fits, needs)
 -- ---- a tiny int
 
 module _ (n : ℕ) where
-  pub tiny-minus : n < 32 → 18_446_744_073_709_551_584 + n ≡ tinyBy n
+  pub tiny-minus : n < 32 → 18_446_744_073_709_551_584 + n ≡ tinyBits (n + 0xBE)
   unfolding choose
-  tiny-minus h = rw (lt-ltb n 32 h) (omega arith)
+  tiny-minus h = rw (lt-ltb (n + 0xBE) 222 (omega arith)) (omega arith)
 
-  pub tiny-plus : 32 ≤ n → n - 32 ≡ tinyBy n
+  pub tiny-plus : 32 ≤ n → n - 32 ≡ tinyBits (n + 0xBE)
   unfolding choose
-  tiny-plus h = rw (le-ltb n 32 h)
+  tiny-plus h = rw (le-ltb (n + 0xBE) 222 (omega arith)) (omega arith)
 
 pub ruleset tiny-laws = (tiny-minus, tiny-plus, needs)
 
 -- ---- a number by its kind
 
 module _ (at b kind width n : ℕ) where
-  pub signed-told : (x : ℕ) → kind ≡ 3 → x ≡ extendedBy width n → answers (bitsOf b x) ≡ ask (numberKind at b kind width n)
+  pub signed-told : (x : ℕ) → kind ≡ 3 → x ≡ extended true width n → answers (bitsOf b x) ≡ ask (numberKind at b kind width n)
   unfolding numberKind choose
   signed-told x e q = rw (e, q)
 
-  pub tiny-told : (x : ℕ) → kind ≡ 5 → x ≡ tinyBy n → answers (bitsOf b x) ≡ ask (numberKind at b kind width n)
+  pub tiny-told : (x : ℕ) → kind ≡ 5 → x ≡ tinyBits (n + 0xBE) → answers (bitsOf b x) ≡ ask (numberKind at b kind width n)
   unfolding numberKind choose
   tiny-told x e q = rw (e, q)
 

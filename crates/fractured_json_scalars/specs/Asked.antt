@@ -1,6 +1,7 @@
 -- The code's own way through the rules of what every question reads first, of kinds and of numbers: by what the constant tables
 -- say. proofs/ shows that each is the rules'.
-use Prim.Native.Nat.{ℕ, _+_, _-_, _*_, _^_, _<_}
+use mathlib.Core.Bool.{true}
+use Prim.Native.Nat.{ℕ, _+_, _<_}
 use mathlib.Core.List.{List}
 use mathlib.Core.Path.{_≡_}
 use lib.Dec.{ltb, eqb}
@@ -9,7 +10,7 @@ use Rattle.json.specs.Choose.{choose}
 use Rattle.json.specs.Reading.{Reading, ask, answers, refuses, answer, refuse, _>>=_, _>>_, need}
 use Rattle.fractured_json_rules.specs.ByteTables.{formOf}
 use Rattle.fractured_json_rules.specs.Verdict.{byteAt, Counted}
-use Rattle.fractured_json_rules.specs.Questions.{opening, Kind, isNull, isFalse, isTrue, isNumber, isString, isObject, isArray, Bits}
+use Rattle.fractured_json_rules.specs.Questions.{opening, Kind, isNull, isFalse, isTrue, isNumber, isString, isObject, isArray, Bits, extended, tinyBits}
 use Rattle.fractured_json_values.specs.Heads.{headOf}
 use Rattle.fractured_json_values.specs.Opened.{sizedAt, finiteKind}
 use Rattle.fractured_json_values.specs.declared.types.Head.{Head}
@@ -51,21 +52,14 @@ kindHead doc c h =
 
 -- ---- numbers
 
--- a number of so many bytes, extended by its sign to 64 bits; and a tiny int, by its place in its range
-abbrev pub extendedBy : ℕ → ℕ → ℕ
-extendedBy width n = choose (ltb n (2 ^ (8 * width - 1))) n (n + (2 ^ 64 - 2 ^ (8 * width)))
-
-abbrev pub tinyBy : ℕ → ℕ
-tinyBy n = choose (ltb n 32) (2 ^ 64 - (32 - n)) (n - 32)
-
 abbrev pub bitsOf : ℕ → ℕ → Bits
 bitsOf b n = record { type = b; bits = n }
 
--- a number of kind 3 to 7, with the payload n
+-- a number of kind 3 to 7, with the payload n: of a tiny int, its place in the range of tiny ints, which starts at BE
 unfoldable pub numberKind : {S : Type 0} → ℕ → ℕ → ℕ → ℕ → ℕ → Reading S Bits
 numberKind c b kind width n =
-    choose (eqb kind 3) (answer (bitsOf b (extendedBy width n)))
-    (choose (eqb kind 5) (answer (bitsOf b (tinyBy n))) (need (finiteKind kind n) 43 c >>= λ _. answer (bitsOf b n)))
+    choose (eqb kind 3) (answer (bitsOf b (extended true width n)))
+    (choose (eqb kind 5) (answer (bitsOf b (tinyBits (n + 0xBE)))) (need (finiteKind kind n) 43 c >>= λ _. answer (bitsOf b n)))
 
 unfoldable pub numberHead : {S : Type 0} → List ℕ → ℕ → ℕ → Head → Reading S Bits
 numberHead doc c b h =

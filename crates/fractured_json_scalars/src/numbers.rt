@@ -6,12 +6,13 @@ use fractured_json_values::values::is_finite;
 use fractured_json_values::values::sized;
 use json::Refusal;
 ghost use mathlib.Core.Path.{_≡_};
-ghost use Prim.Native.Nat.{_^_, _≤_, _<_};
+ghost use mathlib.Core.Bool.{true};
+ghost use Prim.Native.Nat.{_+_, _^_, _≤_, _<_};
 ghost use lib.ListN.{length};
 ghost use Rattle.json.specs.Reading.{ask};
 ghost use Rattle.fractured_json_rules.specs.ByteTables.{formOf};
-ghost use Rattle.fractured_json_rules.specs.Questions.{numberBy};
-ghost use Rattle.fractured_json_scalars.specs.Asked.{extendedBy, tinyBy, numberKind};
+ghost use Rattle.fractured_json_rules.specs.Questions.{extended, tinyBits, numberBy};
+ghost use Rattle.fractured_json_scalars.specs.Asked.{numberKind};
 ghost use Rattle.fractured_json_answers.specs.Told.{toldNumber};
 
 // Of each width in bytes: the first number whose sign is minus, and the bits above the width.
@@ -42,7 +43,7 @@ const ABOVE: [u64; 9] = [
 // A number of so many bytes, extended by its sign.
 fn extend(width: usize, n: usize) -> u64
     requires { ⌜ (width ≤ 8) × (n < 256 ^ width) ⌝ }
-    ensures { λ r. ⌜ r ≡ extendedBy width n ⌝ }
+    ensures { λ r. ⌜ r ≡ extended true width n ⌝ }
 {
     let bits = n as u64;
     if bits < SIGNED[width] {
@@ -54,7 +55,7 @@ fn extend(width: usize, n: usize) -> u64
 // A tiny int, by its place in its range: the first is -32.
 fn tiny_bits(n: usize) -> u64
     requires { ⌜ n < 64 ⌝ }
-    ensures { λ r. ⌜ r ≡ tinyBy n ⌝ }
+    ensures { λ r. ⌜ r ≡ tinyBits (n + 0xBE) ⌝ }
 {
     let bits = n as u64;
     if bits < 32 {
