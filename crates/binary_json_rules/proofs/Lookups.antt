@@ -41,12 +41,10 @@ module _ (doc : List ℕ) (t : Tree) (m : Means doc t) where
 
   -- two slots of one text are one slot
   one-slot : (i j : ℕ) → i < count doc → j < count doc → content doc i ≡ content doc j → i ≡ j
-  one-slot i j a b e = go (ltb i j) (ltb j i) (ltb→lt i j) (nltb→le i j) (ltb→lt j i) (nltb→le j i)
-    where
-      go : (l g : Bool) → (T l → i < j) → (T (not l) → j ≤ i) → (T g → j < i) → (T (not g) → i ≤ j) → i ≡ j
-      go true g p q r s = absurd (clash i j (p tt) b e)
-      go false true p q r s = absurd (clash j i (r tt) a (sym e))
-      go false false p q r s = let x = q tt in let y = s tt in omega arith
+  one-slot i j a b e =
+      let p : i < j → ⊥ = λ h. clash i j h b e in
+      let q : j < i → ⊥ = λ h. clash j i h a (sym e) in
+      omega arith
 
   strings-sorted : (x : List ℕ) → Sorted (contentItem doc x) (count doc)
   strings-sorted x = record {
@@ -111,12 +109,10 @@ module _ (doc : List ℕ) (t : Tree) (m : Means doc t) where
         let (l, r, f) = key-slot-of j x v q in
         let o : k ≡ l = one-slot k l (s .counted) (r .counted) (sym e ∙ f) in
         let w : word doc (keyEntryOf c i) ≡ word doc (keyEntryOf c j) = s .place ∙ (ap (slot doc) o ∙ sym (r .place)) in
-        go w (ltb i j) (ltb j i) (ltb→lt i j) (nltb→le i j) (ltb→lt j i) (nltb→le j i)
-      where
-        go : word doc (keyEntryOf c i) ≡ word doc (keyEntryOf c j) → (a b : Bool) → (T a → i < j) → (T (not a) → j ≤ i) → (T b → j < i) → (T (not b) → i ≤ j) → i ≡ j
-        go w true b h1 h2 h3 h4 = let z = keys-rise ms 0 (c + 4) (c + 4 + 4 * n) (is .1) i j (h1 tt) (member-below ms j x v q) in absurd (omega arith)
-        go w false true h1 h2 h3 h4 = let z = keys-rise ms 0 (c + 4) (c + 4 + 4 * n) (is .1) j i (h3 tt) (member-below ms i x u p) in absurd (omega arith)
-        go w false false h1 h2 h3 h4 = let y = h2 tt in let z = h4 tt in omega arith
+        let up = keys-rise ms 0 (c + 4) (c + 4 + 4 * n) (is .1) in
+        let p′ : i < j → ⊥ = λ h. let z = up i j h (member-below ms j x v q) in omega arith in
+        let q′ : j < i → ⊥ = λ h. let z = up j i h (member-below ms i x u p) in omega arith in
+        omega arith
 
     -- what an answer says of the members: the Entry of one with exactly the key, or that none has it
     pub data Right (x : List ℕ) (r : Found) : Type 0 where
@@ -149,11 +145,10 @@ module _ (doc : List ℕ) (t : Tree) (m : Means doc t) where
     -- a miss leaves no equal item
     missed-none : (item : ℕ → Item) (size l : ℕ) → ((i : ℕ) → i < l → item i ≡ compares Below) → ((i : ℕ) → l ≤ i → i < size → item i ≡ compares Above)
         → (i : ℕ) → i < size → item i ≡ compares Equal → ⊥
-    missed-none item size l lows highs i b e = go (ltb i l) (ltb→lt i l) (nltb→le i l)
-      where
-        go : (g : Bool) → (T g → i < l) → (T (not g) → l ≤ i) → ⊥
-        go true p q = below≢equal (compares-inj (sym (lows i (p tt)) ∙ e))
-        go false p q = equal≢above (compares-inj (sym e ∙ highs i (q tt) b))
+    missed-none item size l lows highs i b e =
+        let p : i < l → ⊥ = λ h. below≢equal (compares-inj (sym (lows i h) ∙ e)) in
+        let q : l ≤ i → ⊥ = λ h. equal≢above (compares-inj (sym e ∙ highs i h b)) in
+        omega arith
 
     -- the quick lookup of x answers r, right, with both counts
     pub record Quick (x : List ℕ) (r : Outcome (Unit {0}) Counted) (first second : ℕ) : Type 0 where
