@@ -234,20 +234,19 @@ module _ (doc : List ℕ) (a : Areas) (x : Laid doc a) (levels o : ℕ) (some : 
       let j = g .0 in
       record { same = g .1 (container (levels - 1) doc) ∙ opened-is doc levels o some; inside = omega arith }
 
-module _ (doc : List ℕ) (a : Areas) (x : Laid doc a) (o : ℕ) (b : Opening) (h : Opened doc o b) where
-  pub body-fits : (f n : ℕ) → b ≡ Opening.Body f n → Fits w64 (4 * n)
+module _ (doc : List ℕ) (a : Areas) (x : Laid doc a) (o : ℕ) (b : Opening) (h : Opened doc o b) (f n : ℕ) (e : b ≡ Opening.Body f n) where
+  body-ends : f + 4 * n ≤ 65_536
   unfolding Opened
-  body-fits f n e =
+  body-ends =
       let g : Opened doc o (Opening.Body f n) = rw e at h in
       let i = x .framed .index-is in let j = g .0 in let k = x .framed .short in let m = x .framed .slots-inside in
       omega arith
 
-  pub due-fits : (f n : ℕ) → b ≡ Opening.Body f n → Fits w64 (f + 4 * n)
-  unfolding Opened
-  due-fits f n e =
-      let g : Opened doc o (Opening.Body f n) = rw e at h in
-      let i = x .framed .index-is in let j = g .0 in let k = x .framed .short in let m = x .framed .slots-inside in
-      omega arith
+  pub body-fits : Fits w64 (4 * n)
+  body-fits = let z = body-ends in omega arith
+
+  pub due-fits : Fits w64 (f + 4 * n)
+  due-fits = let z = body-ends in omega arith
 
 entries-suc : (doc : List ℕ) (child : ℕ → Reading (Unit {0}) ℕ) (l at due : ℕ) → ask (entries doc child (suc l) at due) ≡ ask (entry doc child at due >>= λ next. entries doc child l (at + 4) next)
 unfolding entries

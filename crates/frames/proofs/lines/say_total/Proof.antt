@@ -1,4 +1,4 @@
-use Rattle.frames.proofs.Parts.{part-laws}
+use Rattle.frame.proofs.Frames.{part-laws}
 use Rattle.frames.proofs.lines.say_total.Statement.{statement}
 use Rattle.frames.proofs.lines.say_total.Tie as tie
 
