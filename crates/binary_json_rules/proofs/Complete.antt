@@ -5,7 +5,7 @@ use mathlib.Core.List.{List}
 use Prim.Native.Nat.{ℕ, zero, suc, _+_, _-_, _*_, _%_, _≤_, _<_}
 use native.Mathlib.Omega.{arith}
 use lib.Dec.{T, le→leb, lt→ltb, eqb-refl}
-use Rattle.json.specs.Reading.{done, Reading, _>>=_}
+use Rattle.json.specs.Reading.{done, Reading}
 use Rattle.json.specs.Bytes.{number}
 use Rattle.json.specs.Limits.{deepest}
 use Rattle.json.specs.Number.{binary64, finite}

@@ -8,13 +8,12 @@ use native.Mathlib.Omega.{arith}
 use native.Mathlib.Decide.{ℕ-discrete}
 use lib.Dec.{T, ltb, ltb→lt, nltb→le}
 use Rattle.json.specs.Choose.{choose}
-use Rattle.json.specs.Reading.{Outcome, answer, ask, answers, _>>=_}
+use Rattle.json.specs.Reading.{Outcome, answer, ask, answers}
 use Rattle.json.specs.Texts.{compareTexts, compareNumbers, isEqual}
-use Rattle.json.specs.declared.Order.{Order}
 use Rattle.json.specs.declared.Order.the-variants.{Below, Equal, Above}
 use Rattle.json.specs.Tree.{Tree, obj, Members, end, member, sizem, MemberIs, Lacks}
 use Rattle.json.proofs.Reading.{then}
-use Rattle.json.proofs.Texts.{below≢equal, equal≢above, numbers-below, numbers-equal, numbers-above, texts-equal, texts-above, text-strict, text-cotrans, text-trans}
+use Rattle.json.proofs.Texts.{below≢equal, equal≢above, numbers-below, numbers-equal, numbers-above, texts-equal, texts-same, texts-above, text-strict, text-cotrans, text-trans}
 use Rattle.json.proofs.Tree.{member-at, member-below}
 use Rattle.binary_json_rules.specs.Areas.{word, count, slot, content}
 use Rattle.binary_json_rules.specs.Meaning.{SlotIs, MembersAre, ContainerIs, Means}
@@ -199,9 +198,6 @@ module _ (doc : List ℕ) (t : Tree) (m : Means doc t) where
       first-has : (j : ℕ) (v : Tree) → MemberIs rest j x v → r ≡ answers (entry (entryOf c n (i + j))) → Scanned rest i x r
       none-has : Lacks rest x → r ≡ answers absent → Scanned rest i x r
 
-    equal-yes : (a x : List ℕ) → a ≡ x → isEqual (compareTexts a x) ≡ true
-    equal-yes a x e = rw (texts-equal a x .1 e)
-
     scan-later : (k x : List ℕ) (v : Tree) (rest : Members) (i : ℕ) (r : Outcome (Unit {0}) Found) → (k ≡ x → ⊥) → Scanned rest (i + 1) x r → Scanned (member k v rest) i x r
     scan-later k x v rest i r d (first-has j w y e) = let z : i + 1 + j ≡ i + suc j = omega arith in first-has (suc j) w y (rw z at e)
     scan-later k x v rest i r d (none-has f e) = none-has (λ j w y. go j w y) e
@@ -223,17 +219,9 @@ module _ (doc : List ℕ) (t : Tree) (m : Means doc t) where
         go : (b : Bool) → isEqual (compareTexts k x) ≡ b → Scanned rest (i + 1) x (ask (scanFrom doc c n x (sizem rest) (i + 1))) → Scanned (member k v rest) i x (ask (scanFrom doc c n x (suc (sizem rest)) i))
         go true q r =
             let z : i + 0 ≡ i = omega arith in
-            first-has 0 v (sym (same k x q), refl) (read ∙ rw (q, z))
-          where
-            same : (a b : List ℕ) → isEqual (compareTexts a b) ≡ true → a ≡ b
-            same a b q = texts-equal a b .0 (is-equal (compareTexts a b) q)
-              where
-                is-equal : (o : Order) → isEqual o ≡ true → o ≡ Equal
-                is-equal Below e = absurd (let w : _≡_ {A = ℕ} 0 1 = cc in omega arith)
-                is-equal Equal e = refl
-                is-equal Above e = absurd (let w : _≡_ {A = ℕ} 0 1 = cc in omega arith)
+            first-has 0 v (sym (texts-same k x .0 (rw q tt)), refl) (read ∙ rw (q, z))
         go false q r =
-            let d : k ≡ x → ⊥ = λ g. absurd (let w = sym q ∙ equal-yes k x g in let w2 : _≡_ {A = ℕ} 0 1 = cc in omega arith) in
+            let d : k ≡ x → ⊥ = λ g. rw q at (texts-same k x .1 g) in
             subst (λ (y : Outcome (Unit {0}) Found). Scanned (member k v rest) i x y) (sym (read ∙ rw q)) (scan-later k x v rest i _ d r)
 
     pub scan-right : Aligned c → (x : List ℕ) → (r : Found) × Right x r × (ask (plainScan doc c x) ≡ answers r)

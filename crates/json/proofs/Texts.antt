@@ -8,7 +8,7 @@ use Prim.Native.Nat.{ℕ, _≤_, _<_}
 use native.Mathlib.Omega.{arith}
 use lib.Dec.{T, ltb, ltb→lt, nltb→le}
 use Rattle.json.specs.Choose.{choose}
-use Rattle.json.specs.Texts.{byNumbers, compareNumbers, compareTexts}
+use Rattle.json.specs.Texts.{byNumbers, compareNumbers, compareTexts, isEqual}
 use Rattle.json.specs.declared.Order.{Order}
 use Rattle.json.specs.declared.Order.the-variants.{Below, Equal, Above}
 
@@ -73,6 +73,15 @@ one-equal (x ∷ xs) = by-same x x (compareTexts xs xs) refl ∙ one-equal xs
 -- equal exactly if the lists are equal
 pub texts-equal : (a b : List ℕ) → (compareTexts a b ≡ Equal) ↔ (a ≡ b)
 texts-equal a b = (equal-one a b, λ e. rw e (one-equal b))
+
+equal-order : (o : Order) → T (isEqual o) → o ≡ Equal
+equal-order Below t = absurd t
+equal-order Equal t = refl
+equal-order Above t = absurd t
+
+-- as a test
+pub texts-same : (a b : List ℕ) → T (isEqual (compareTexts a b)) ↔ (a ≡ b)
+texts-same a b = (λ t. equal-one a b (equal-order (compareTexts a b) t), λ e. rw (texts-equal a b .1 e) tt)
 
 -- strict
 pub text-strict : (a : List ℕ) → compareTexts a a ≡ Below → ⊥
