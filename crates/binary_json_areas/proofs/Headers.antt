@@ -1,28 +1,20 @@
 -- Rules 1 to 4, one law for each way through `read_header`: its premises are the tests as the code makes them.
-use mathlib.Core.Path.{_≡_, sym, _∙_}
+use mathlib.Core.Path.{_≡_, sym, ap, _∙_}
 use mathlib.Core.List.{List}
 use Prim.Native.Nat.{ℕ, _+_, _*_, _%_, _^_, _≤_, _<_}
 use native.Mathlib.Omega.{arith}
 use borrow.Author.Needs.{needs}
-use lib.Dec.{T, leb, eqb, leb→le, le→leb, eqb→eq}
+use lib.Dec.{leb, eqb, le→leb}
 use lib.ListN.{length}
 use mir.Syntax.{w64}
 use mir.Val.{Fits}
 use Rattle.json.specs.Reading.{Reading, ask, refuses, _>>=_, _>>_, need}
-use Rattle.json.proofs.Reading.{pass, fail, need-yes, need-no}
+use Rattle.json.proofs.Reading.{eq→eqb, over, unlike, pass, fail, need-yes, need-no}
 use Rattle.binary_json_rules.specs.Areas.{word, low, high, index, count, slot}
 use Rattle.binary_json_rules.specs.Verdict.{header}
-use Rattle.binary_json_rules.proofs.Complete.{eq→eqb}
 use Rattle.binary_json_areas.specs.Laid.{Begun, Framed, Indexed}
 use Rattle.binary_json_areas.specs.declared.areas.Index.{Index}
 use Rattle.json.specs.declared.Refusal.{Refusal}
-
--- a test that fails
-pub over : {m n : ℕ} → n < m → T (leb m n) → ⊥
-over {m} {n} h t = let l = leb→le m n t in omega arith
-
-pub unlike : {m n : ℕ} → (m ≡ n → ⊥) → T (eqb m n) → ⊥
-unlike {m} {n} h t = h (eqb→eq m n t)
 
 -- rule 4
 unfoldable rule4 : {S : Type 0} → List ℕ → Reading S (Unit {0})
@@ -88,16 +80,16 @@ module _ (doc : List ℕ) (i c : ℕ) (g : Begun doc i) (cs : c ≡ word doc i) 
   unfolding count
   at-count = rw (g .index-is) at cs
 
-  slots-end : i + 4 + 4 * c ≡ slot doc (count doc)
+  last-slot : i + 4 + 4 * c ≡ slot doc (count doc)
   unfolding slot
-  slots-end = rw (g .index-is, at-count)
+  last-slot = rw (g .index-is, at-count)
 
   slots-outside : length doc < i + 4 + 4 * c → ask (header doc) ≡ refuses 4 i
-  slots-outside h = g .to-slots ∙ rw (sym (g .index-is)) (need-no _ _ _ tt (over (rw slots-end at h)))
+  slots-outside h = g .to-slots ∙ rw (sym (g .index-is)) (need-no _ _ _ tt (over (rw last-slot at h)))
 
   framed : i + 4 + 4 * c ≤ length doc → Framed doc i c
   framed h = record {
-    passes = g .to-slots ∙ need-yes _ _ _ tt (le→leb _ _ (rw slots-end at h));
+    passes = g .to-slots ∙ need-yes _ _ _ tt (le→leb _ _ (rw last-slot at h));
     index-is = g .index-is;
     count-is = at-count;
     short = g .short;
@@ -106,10 +98,13 @@ module _ (doc : List ℕ) (i c : ℕ) (g : Begun doc i) (cs : c ≡ word doc i) 
     slots-inside = h;
   }
 
--- slot k stands where the code counts it
+-- slot k stands where the code counts it, and so does the slots' end
 pub slot-is : (doc : List ℕ) (i c k : ℕ) → Framed doc i c → i + 4 + 4 * k ≡ slot doc k
 unfolding slot
 slot-is doc i c k g = rw (g .index-is)
+
+pub slots-end : (doc : List ℕ) (i c : ℕ) → Framed doc i c → i + 4 + 4 * c ≡ slot doc (count doc)
+slots-end doc i c g = slot-is doc i c c g ∙ ap (slot doc) (g .count-is)
 
 -- ---- by the answer of `read_index`
 

@@ -5,19 +5,18 @@ use mathlib.Core.List.{List}
 use Prim.Native.Nat.{ℕ, suc, _+_, _-_, _*_, _/_, _%_, _^_, _≤_, _<_}
 use native.Mathlib.Omega.{arith}
 use borrow.Author.Needs.{needs}
-use lib.Dec.{T, leb, ltb, eqb, le→leb, lt→ltb, ltb→lt, not-T, T-not}
+use lib.Dec.{leb, ltb, eqb, le→leb, lt→ltb, not-T, T-not}
 use lib.ListN.{length, take, drop}
 use Rattle.json.specs.Bytes.{number}
-use Rattle.json.specs.Number.{finite}
-use Rattle.json.specs.Reading.{Reading, answer, ask, answers, _>>=_}
-use Rattle.json.proofs.Reading.{then, stops, pass, fail, need-yes, need-no}
+use Rattle.json.specs.Number.{binary64, finite}
+use Rattle.json.specs.Reading.{Reading, answer, ask, answers, need, _>>=_}
+use Rattle.json.proofs.Reading.{eq→eqb, over, past, unlike, then, stops, pass, fail, need-yes, need-no}
 use Rattle.word.proofs.Laws.{number-part}
 use Rattle.binary_json_rules.specs.Areas.{high, index, count, slot, text, numbers}
 use Rattle.binary_json_rules.specs.Verdict.{slotNamed, numberNamed}
 use Rattle.binary_json_rules.specs.Meaning.{SlotIs}
 use Rattle.binary_json_rules.specs.Questions.{slotRead, textNamed}
 use Rattle.binary_json_rules.specs.TreeOf.{slotAt}
-use Rattle.binary_json_rules.proofs.Complete.{eq→eqb}
 use Rattle.binary_json_rules.proofs.Sound.{slot-sound}
 use Rattle.binary_json_rules.proofs.Trees.{slot-at}
 use Rattle.binary_json_areas.specs.Laid.{Laid}
@@ -25,15 +24,14 @@ use Rattle.binary_json_areas.specs.Naming.{SlotNamed, NumberNamed, TextR
 use Rattle.binary_json_areas.specs.declared.areas.Areas.{Areas}
 use Rattle.binary_json_areas.specs.declared.named.Numbered.{Numbered}
 use Rattle.binary_json_areas.specs.declared.named.Texted.{Texted}
-use Rattle.binary_json_areas.proofs.Headers.{over, unlike}
-use Rattle.binary_json_areas.proofs.Headers.{slot-is}
+use Rattle.binary_json_areas.proofs.Headers.{slot-is, slots-end}
 
 module _ (doc : List ℕ) (a : Areas) (x : Laid doc a) (v : ℕ) where
   first-is : a .index + 4 ≡ slot doc 0
   first-is = let e : a .index + 4 ≡ a .index + 4 + 4 * 0 = omega arith in e ∙ slot-is doc (a .index) (a .count) 0 (x .framed)
 
   last-is : a .index + 4 + 4 * a .count ≡ slot doc (count doc)
-  last-is = slot-is doc (a .index) (a .count) (a .count) (x .framed) ∙ ap (slot doc) (x .framed .count-is)
+  last-is = slots-end doc (a .index) (a .count) (x .framed)
 
   pub before-slots : v < a .index + 4 → SlotNamed doc v false
   unfolding slotNamed
@@ -45,16 +43,15 @@ module _ (doc : List ℕ) (a : Areas) (x : Laid doc a) (v : ℕ) where
     between-slots h n p = pass _ _ _ _ tt (le→leb _ _ (rw first-is at b)) ∙ fail _ _ _ _ tt (unlike (rw first-is at h))
 
     module _ (s : (v - (a .index + 4)) % 4 ≡ 0) where
-      pub behind-slots : a .index + 4 + 4 * a .count ≤ v → SlotNamed doc v false
+      to-last : (n p : ℕ) → ask (slotNamed doc v n p) ≡ ask (need (ltb v (slot doc (count doc))) n p)
       unfolding slotNamed
-      behind-slots h n p =
-          let g = rw last-is at h in
-          pass _ _ _ _ tt (le→leb _ _ (rw first-is at b)) ∙ (pass _ _ _ _ tt (eq→eqb (rw first-is at s)) ∙ need-no _ _ _ tt (λ t. let l = ltb→lt v (slot doc (count doc)) t in omega arith))
+      to-last n p = pass _ _ _ _ tt (le→leb _ _ (rw first-is at b)) ∙ pass _ _ _ _ tt (eq→eqb (rw first-is at s))
+
+      pub behind-slots : a .index + 4 + 4 * a .count ≤ v → SlotNamed doc v false
+      behind-slots h n p = to-last n p ∙ need-no _ _ _ tt (past (rw last-is at h))
 
       pub a-slot : v < a .index + 4 + 4 * a .count → SlotNamed doc v true
-      unfolding slotNamed
-      a-slot h n p =
-          pass _ _ _ _ tt (le→leb _ _ (rw first-is at b)) ∙ (pass _ _ _ _ tt (eq→eqb (rw first-is at s)) ∙ need-yes _ _ _ tt (lt→ltb _ _ (rw last-is at h)))
+      a-slot h n p = to-last n p ∙ need-yes _ _ _ tt (lt→ltb _ _ (rw last-is at h))
 
 pub ruleset slot-named-laws = (before-slots, between-slots, behind-slots, a-slot, needs)
 
@@ -69,9 +66,12 @@ module _ (doc : List ℕ) (a : Areas) (x : Laid doc a) (v : ℕ) where
     between-numbers h n p = pass _ _ _ _ tt (le→leb _ _ (rw (x .numbers-is) at b)) ∙ fail _ _ _ _ tt (unlike (rw (x .numbers-is) at h))
 
     module _ (s : (v - a .numbers) % 8 ≡ 0) where
-      outside : length doc < v + 8 → NumberNamed doc v Numbered.Outside
+      to-inside : (n p : ℕ) → ask (numberNamed doc v n p) ≡ ask (need (leb (v + 8) (length doc)) n p >>= λ _. need (finite binary64 (number doc v 8)) 10 p)
       unfolding numberNamed
-      outside h n p = pass _ _ _ _ tt (le→leb _ _ (rw (x .numbers-is) at b)) ∙ (pass _ _ _ _ tt (eq→eqb (rw (x .numbers-is) at s)) ∙ fail _ _ _ _ tt (over h))
+      to-inside n p = pass _ _ _ _ tt (le→leb _ _ (rw (x .numbers-is) at b)) ∙ pass _ _ _ _ tt (eq→eqb (rw (x .numbers-is) at s))
+
+      outside : length doc < v + 8 → NumberNamed doc v Numbered.Outside
+      outside h n p = to-inside n p ∙ fail _ _ _ _ tt (over h)
 
       pub past-document : length doc < v → NumberNamed doc v Numbered.Outside
       past-document h = outside (omega arith)
@@ -83,23 +83,16 @@ module _ (doc : List ℕ) (a : Areas) (x : Laid doc a) (v : ℕ) where
         bits-are : bits ≡ number doc v 8
         bits-are = e ∙ number-part doc v 8
 
-        there : T (leb (v + 8) (length doc))
-        there = let q : v + 8 ≤ length doc = omega arith in le→leb _ _ q
+        to-finite : (n p : ℕ) → ask (numberNamed doc v n p) ≡ ask (need (finite binary64 (number doc v 8)) 10 p)
+        to-finite n p = let q : v + 8 ≤ length doc = omega arith in to-inside n p ∙ pass _ _ _ _ tt (le→leb _ _ q)
 
         pub infinite : bits / 4_503_599_627_370_496 % 2048 ≡ 2047 → NumberNamed doc v Numbered.Infinite
-        unfolding numberNamed finite
-        infinite q n p =
-            pass _ _ _ _ tt (le→leb _ _ (rw (x .numbers-is) at b)) ∙ (pass _ _ _ _ tt (eq→eqb (rw (x .numbers-is) at s)) ∙ (pass _ _ _ _ tt there
-            ∙ need-no _ _ _ tt (λ t. T-not (eqb (number doc v 8 / 2 ^ 52 % 2 ^ 11) (2 ^ 11 - 1)) t (eq→eqb (rw bits-are at q)))))
+        unfolding finite
+        infinite q n p = to-finite n p ∙ need-no _ _ _ tt (λ t. T-not (eqb (number doc v 8 / 2 ^ 52 % 2 ^ 11) (2 ^ 11 - 1)) t (eq→eqb (rw bits-are at q)))
 
         pub finite-number : (bits / 4_503_599_627_370_496 % 2048 ≡ 2047 → ⊥) → NumberNamed doc v (Numbered.Finite bits)
-        unfolding numberNamed finite
-        finite-number q = (
-          bits-are,
-          λ n p.
-              pass _ _ _ _ tt (le→leb _ _ (rw (x .numbers-is) at b)) ∙ (pass _ _ _ _ tt (eq→eqb (rw (x .numbers-is) at s)) ∙ (pass _ _ _ _ tt there
-              ∙ need-yes _ _ _ tt (not-T (eqb (number doc v 8 / 2 ^ 52 % 2 ^ 11) (2 ^ 11 - 1)) (unlike (rw bits-are at q))))),
-        )
+        unfolding finite
+        finite-number q = (bits-are, λ n p. to-finite n p ∙ need-yes _ _ _ tt (not-T (eqb (number doc v 8 / 2 ^ 52 % 2 ^ 11) (2 ^ 11 - 1)) (unlike (rw bits-are at q))))
 
 pub ruleset number-named-laws = (before-numbers, between-numbers, past-document, cut-short, infinite, finite-number, needs)
 
@@ -115,11 +108,13 @@ named-slot doc v h =
     record { counted = rw s (is .counted); place = rw s (is .place) }
 
 module _ (doc : List ℕ) (a : Areas) (x : Laid doc a) (v : ℕ) (h : SlotNamed doc v true) where
+  v-is : v ≡ a .index + 4 + 4 * slotAt doc v
+  v-is = named-slot doc v h .place ∙ sym (slot-is doc (a .index) (a .count) (slotAt doc v) (x .framed))
+
   v-inside : (a .index + 4 ≤ v) × (v < a .index + 4 + 4 * a .count) × ((v - (a .index + 4)) % 4 ≡ 0)
   v-inside =
-      let is = named-slot doc v h in
-      let n = is .counted in
-      let p = is .place ∙ sym (slot-is doc (a .index) (a .count) (slotAt doc v) (x .framed)) in
+      let n = named-slot doc v h .counted in
+      let p = v-is in
       let c = x .framed .count-is in
       (omega arith, omega arith, omega arith)
 
@@ -135,22 +130,18 @@ module _ (doc : List ℕ) (a : Areas) (x : Laid doc a) (v : ℕ) (h : SlotNamed 
   pub first-start : v ≡ a .index + 4 → a .index + 4 + 4 * a .count ≡ text doc (slotAt doc v)
   unfolding text
   first-start e =
-      let q : slotAt doc v ≡ 0 = let is = named-slot doc v h in let p = is .place ∙ sym (slot-is doc (a .index) (a .count) (slotAt doc v) (x .framed)) in omega arith in
+      let q : slotAt doc v ≡ 0 = omega (arith, v-is) in
       last-is doc a x v ∙ sym (ap (text doc) q)
 
   after-slot : (k : ℕ) → slotAt doc v ≡ suc k → high doc (v - 4) ≡ text doc (slotAt doc v)
   unfolding text
   after-slot k e =
-      let is = named-slot doc v h in
-      let p = is .place ∙ sym (slot-is doc (a .index) (a .count) (slotAt doc v) (x .framed)) in
-      let q : v - 4 ≡ a .index + 4 + 4 * k = omega arith in
+      let q : v - 4 ≡ a .index + 4 + 4 * k = omega (arith, v-is) in
       ap (λ o. high doc o) (q ∙ slot-is doc (a .index) (a .count) k (x .framed)) ∙ sym (ap (text doc) e)
 
   pub later-start : (f : ℕ) → (v ≡ a .index + 4 → ⊥) → f ≡ high doc (v - 4) → f ≡ text doc (slotAt doc v)
   later-start f n e =
-      let is = named-slot doc v h in
-      let p = is .place ∙ sym (slot-is doc (a .index) (a .count) (slotAt doc v) (x .framed)) in
-      let q : slotAt doc v ≡ suc (slotAt doc v - 1) = omega arith in
+      let q : slotAt doc v ≡ suc (slotAt doc v - 1) = omega (arith, v-is) in
       e ∙ after-slot (slotAt doc v - 1) q
 
   text-end : high doc v ≡ text doc (suc (slotAt doc v))
@@ -168,28 +159,19 @@ module _ (doc : List ℕ) (a : Areas) (x : Laid doc a) (v : ℕ) (h : SlotNamed 
     module _ (b : a .index + 4 + 4 * a .count ≤ start) where
       pub no-text : e ≤ start → TextRead doc v Texted.Bad
       unfolding slotRead
-      no-text q c =
-          let g = end-is in
-          pass _ _ _ _ tt (le→leb _ _ (rw (last-is doc a x v, st) at b)) ∙ fail _ _ _ _ tt (λ t. let l = ltb→lt (text doc (slotAt doc v)) (text doc (suc (slotAt doc v))) t in omega arith)
+      no-text q c = pass _ _ _ _ tt (le→leb _ _ (rw (last-is doc a x v, st) at b)) ∙ fail _ _ _ _ tt (past (rw (end-is, st) at q))
 
       module _ (f : start < e) where
-        forward : T (ltb (text doc (slotAt doc v)) (text doc (suc (slotAt doc v))))
-        forward = let g = end-is in let q : text doc (slotAt doc v) < text doc (suc (slotAt doc v)) = omega arith in lt→ltb _ _ q
+        to-end : (c : ℕ) → ask (slotRead doc (slotAt doc v) c) ≡ ask (need (leb e (a .numbers)) 20 c >>= λ _. answer (record { place = start; len = e - 1 - start }))
+        unfolding slotRead
+        to-end c =
+            pass _ _ _ _ tt (le→leb _ _ (rw (last-is doc a x v, st) at b)) ∙ (pass _ _ _ _ tt (lt→ltb _ _ (rw (st, end-is) at f)) ∙ rw (st, end-is, x .numbers-is))
 
         pub past-numbers : a .numbers < e → TextRead doc v Texted.Bad
-        unfolding slotRead
-        past-numbers q c =
-            pass _ _ _ _ tt (le→leb _ _ (rw (last-is doc a x v, st) at b)) ∙ (pass _ _ _ _ tt forward ∙ fail _ _ _ _ tt (over (rw (x .numbers-is, end-is) at q)))
+        past-numbers q c = to-end c ∙ fail _ _ _ _ tt (over q)
 
         pub good-text : e ≤ a .numbers → TextRead doc v (Texted.At start (e - 1 - start))
-        unfolding slotRead
-        good-text q =
-            let i = x .inside in (
-              omega arith,
-              λ c.
-                  pass _ _ _ _ tt (le→leb _ _ (rw (last-is doc a x v, st) at b)) ∙ (pass _ _ _ _ tt forward ∙ (pass _ _ _ _ tt (le→leb _ _ (rw (x .numbers-is, end-is) at q))
-                  ∙ rw (st, end-is))),
-            )
+        good-text q = let i = x .inside in (omega arith, λ c. to-end c ∙ pass _ _ _ _ tt (le→leb _ _ q))
 
 pub ruleset text-laws = (slot-inside, before-inside, before-there, first-start, later-start, starts-early, no-text, past-numbers, good-text, needs)
 

@@ -11,17 +11,15 @@ use mir.Syntax.{w64}
 use mir.Val.{Fits}
 use Rattle.json.specs.Reading.{Reading, ask, refuses, _>>=_}
 use Rattle.json.specs.declared.Refusal.{Refusal}
-use Rattle.json.proofs.Reading.{then, stops, pass, fail, need-yes, need-no, assoc}
+use Rattle.json.proofs.Reading.{eq→eqb, over, unlike, then, stops, pass, fail, need-yes, need-no, assoc}
 use Rattle.binary_json_rules.specs.Areas.{high, index, count, slot, text, numbers}
 use Rattle.binary_json_rules.specs.Questions.{opening, treeWord}
-use Rattle.binary_json_rules.proofs.Complete.{eq→eqb}
 use Rattle.binary_json_areas.specs.Laid.{Framed, Headed, Laid}
 use Rattle.binary_json_areas.specs.Asking.{Open, Opens, WordNamed, Placed, Places}
 use Rattle.binary_json_areas.specs.declared.areas.Areas.{Areas}
 use Rattle.binary_json_areas.specs.declared.areas.Header.{Header}
 use Rattle.binary_json_areas.specs.declared.asking.Asking.{Asking}
-use Rattle.binary_json_areas.proofs.Headers.{over, unlike}
-use Rattle.binary_json_areas.proofs.Headers.{slot-is}
+use Rattle.binary_json_areas.proofs.Headers.{slot-is, slots-end}
 
 -- ---- where the texts end
 
@@ -59,9 +57,6 @@ module _ (doc : List ℕ) (h : Header) (x : Headed doc h) (i c : ℕ) (e : h ≡
   pub framed : Framed doc i c
   framed = rw e at x
 
-  slots-end : i + 4 + 4 * c ≡ slot doc (count doc)
-  slots-end = slot-is doc i c c framed ∙ ap (slot doc) (framed .count-is)
-
   pub index-fits : Fits w64 (i + 4)
   index-fits = let s = framed .slots-inside in let l = framed .short in omega arith
 
@@ -74,18 +69,18 @@ module _ (doc : List ℕ) (h : Header) (x : Headed doc h) (i c : ℕ) (e : h ≡
   module _ (cursor n : ℕ) (ns : n ≡ numbers doc) where
     pub texts-refused : n < i + 4 + 4 * c → ask (opening doc cursor) ≡ refuses 20 cursor
     unfolding opening
-    texts-refused q = then _ _ tt (framed .passes) ∙ fail _ _ _ _ tt (over (rw (slots-end, ns) at q))
+    texts-refused q = then _ _ tt (framed .passes) ∙ fail _ _ _ _ tt (over (rw (slots-end doc i c framed, ns) at q))
 
     module _ (b : i + 4 + 4 * c ≤ n) where
       pub numbers-refused : length doc < n → ask (opening doc cursor) ≡ refuses 20 cursor
       unfolding opening
-      numbers-refused q = then _ _ tt (framed .passes) ∙ (pass _ _ _ _ tt (le→leb _ _ (rw (slots-end, ns) at b)) ∙ need-no _ _ _ tt (over (rw ns at q)))
+      numbers-refused q = then _ _ tt (framed .passes) ∙ (pass _ _ _ _ tt (le→leb _ _ (rw (slots-end doc i c framed, ns) at b)) ∙ need-no _ _ _ tt (over (rw ns at q)))
 
       pub opened : n ≤ length doc → Open doc (record { index = i; count = c; numbers = n }) cursor
       unfolding opening
       opened q = record {
         laid = record { framed = framed; numbers-is = ns; texts = b; inside = q };
-        opens = then _ _ tt (framed .passes) ∙ (pass _ _ _ _ tt (le→leb _ _ (rw (slots-end, ns) at b)) ∙ need-yes _ _ _ tt (le→leb _ _ (rw ns at q)));
+        opens = then _ _ tt (framed .passes) ∙ (pass _ _ _ _ tt (le→leb _ _ (rw (slots-end doc i c framed, ns) at b)) ∙ need-yes _ _ _ tt (le→leb _ _ (rw ns at q)));
       }
 
 pub ruleset open-laws = (header-refused, framed, index-fits, count-fits, slots-fit, texts-refused, numbers-refused, opened, needs)

@@ -8,18 +8,16 @@ use lib.Dec.{eqb}
 use lib.ListN.{length}
 use Rattle.json.specs.Reading.{Reading, ask, answers, refuses, _>>=_, _>>_, need}
 use Rattle.json.specs.declared.Refusal.{Refusal}
-use Rattle.json.proofs.Reading.{then, stops, pass, fail, need-yes, need-no}
+use Rattle.json.proofs.Reading.{eq→eqb, unlike, then, stops, pass, fail, need-yes, need-no}
 use Rattle.binary_json_rules.specs.Areas.{low, index, count, slot, numbers, kindOf}
 use Rattle.binary_json_rules.specs.Verdict.{rootBy, check, verdict}
-use Rattle.binary_json_rules.proofs.Complete.{eq→eqb}
 use Rattle.binary_json_areas.specs.Laid.{Framed, Headed, Indexes}
 use Rattle.binary_json_check.specs.Slots.{SlotsRead}
 use Rattle.binary_json_check.specs.Walks.{toldWalk}
 use Rattle.binary_json_areas.specs.declared.areas.Areas.{Areas}
 use Rattle.binary_json_areas.specs.declared.areas.Header.{Header}
 use Rattle.binary_json_areas.specs.declared.areas.Walk.{Walk}
-use Rattle.binary_json_areas.proofs.Headers.{unlike}
-use Rattle.binary_json_areas.proofs.Headers.{slot-is}
+use Rattle.binary_json_areas.proofs.Headers.{slots-end}
 
 pub header-stops : (doc : List ℕ) (h : Header) (r : Refusal) → Headed doc h → h ≡ Header.Refused r → refuses (r .number) (r .place) ≡ verdict doc
 unfolding check
@@ -38,7 +36,7 @@ module _ (doc : List ℕ) (h : Header) (i c : ℕ) (x : Headed doc h) (e : h ≡
     indexes n q =
         let g = header-framed in
         let z : SlotsRead doc (Walk.End n) = rw q at y in
-        let s : i + 4 + 4 * c ≡ slot doc (count doc) = slot-is doc i c c g ∙ ap (slot doc) (g .count-is) in
+        let s = slots-end doc i c g in
         let b = z .1 in
         record { laid = record { framed = g; numbers-is = z .0; texts = omega arith; inside = z .2 }; slots-pass = z .3 }
 

@@ -1,26 +1,25 @@
 -- Rules 5 and 6, one law for each way through the functions of `strings`.
 use mathlib.Core.Path.{_≡_, refl, sym, ap, _∙_}
-use mathlib.Core.Bool.{true}
+use mathlib.Core.Bool.{true, false}
 use mathlib.Core.List.{List}
 use Prim.Native.Nat.{ℕ, zero, suc, _+_, _-_, _*_, _≤_, _<_}
 use native.Mathlib.Omega.{arith}
 use borrow.Author.Needs.{needs}
-use lib.Dec.{T, leb, ltb, eqb, le→leb, lt→ltb, ltb→lt}
+use lib.Dec.{T, leb, ltb, eqb, le→leb, lt→ltb}
 use lib.ListN.{length, getD}
 use Rattle.json.specs.Reading.{Reading, ask, refuses, need, _>>=_}
 use Rattle.json.specs.Bytes.{part}
 use Rattle.json.specs.Texts.{compareTexts, isBelow}
 use Rattle.json.specs.declared.Order.{Order}
-use Rattle.json.specs.declared.Order.the-variants.{Below, Equal, Above}
+use Rattle.json.specs.declared.Order.the-variants.{Below}
 use Rattle.json.specs.declared.Refusal.{Refusal}
-use Rattle.json.proofs.Reading.{then, stops, pass, fail, need-yes, need-no}
+use Rattle.json.proofs.Reading.{eq→eqb, over, past, unlike, then, stops, pass, fail, need-yes, need-no}
 use Rattle.binary_json_rules.specs.Areas.{low, high, count, slot, text, content, numbers}
 use Rattle.binary_json_rules.specs.Verdict.{ascends, slotRules, slots}
-use Rattle.binary_json_rules.proofs.Complete.{eq→eqb}
 use Rattle.binary_json_areas.specs.Laid.{Framed}
 use Rattle.binary_json_check.specs.Slots.{Texts, Rule5, SlotRead, SlotsRead}
 use Rattle.binary_json_areas.specs.declared.areas.Walk.{Walk}
-use Rattle.binary_json_areas.proofs.Headers.{over, unlike, slot-is}
+use Rattle.binary_json_areas.proofs.Headers.{slot-is, slots-end}
 
 text-after : (doc : List ℕ) (k : ℕ) → text doc (suc k) ≡ high doc (slot doc k)
 unfolding text
@@ -45,7 +44,7 @@ module _ (doc : List ℕ) (i c k start : ℕ) (g : Framed doc i c) (st : start �
 
     pub backward-refused : e ≤ start → ask (slotRules doc k) ≡ refuses 5 (i + 4 + 4 * k)
     unfolding slotRules
-    backward-refused h = rw (slot-is doc i c k g) (one _ ∙ fail _ _ _ _ tt (λ t. let q = ltb→lt (text doc k) (text doc (suc k)) t in let p = end-is in omega arith))
+    backward-refused h = rw (slot-is doc i c k g) (one _ ∙ fail _ _ _ _ tt (past (rw (end-is, st) at h)))
 
     module _ (forward : start < e) where
       two : T (ltb (text doc k) (text doc (suc k)))
@@ -111,16 +110,10 @@ module _ (doc : List ℕ) (k : ℕ) (w : Walk) (h : Rule5 doc k w) where
       pub below-read : o ≡ Below → SlotRead doc k (Walk.End e)
       below-read q = (ended .0, ended .1, ended .2, ended .3 ∙ need-yes _ _ _ tt (rw (ascends-is, q) tt))
 
-      not-below : (i c : ℕ) → Framed doc i c → (T (isBelow o) → ⊥) → ask (slotRules doc k) ≡ refuses 6 (i + 4 + 4 * k)
-      not-below i c g q = ended .3 ∙ rw (slot-is doc i c k g) (need-no _ _ _ tt (λ t. q (rw ascends-is at t)))
+      pub not-below : (i c : ℕ) → Framed doc i c → (m : Order) → o ≡ m → isBelow m ≡ false → ask (slotRules doc k) ≡ refuses 6 (i + 4 + 4 * k)
+      not-below i c g m q n = ended .3 ∙ rw (slot-is doc i c k g) (need-no _ _ _ tt (λ t. rw (ascends-is, q, n) at t))
 
-      pub equal-refused : (i c : ℕ) → Framed doc i c → o ≡ Equal → ask (slotRules doc k) ≡ refuses 6 (i + 4 + 4 * k)
-      equal-refused i c g q = not-below i c g (λ t. rw q at t)
-
-      pub above-refused : (i c : ℕ) → Framed doc i c → o ≡ Above → ask (slotRules doc k) ≡ refuses 6 (i + 4 + 4 * k)
-      above-refused i c g q = not-below i c g (λ t. rw q at t)
-
-pub ruleset read-slot-laws = (texts-prior, rule5-refused, end-inside, end-forward, first-read, below-read, equal-refused, above-refused, needs)
+pub ruleset read-slot-laws = (texts-prior, rule5-refused, end-inside, end-forward, first-read, below-read, not-below, needs)
 
 -- ---- all slots in turn
 
@@ -134,7 +127,7 @@ pub record Slotted (doc : List ℕ) (c k before start : ℕ) : Type 0 where
 pub slotted-first : (doc : List ℕ) (i c b : ℕ) → Framed doc i c → Slotted doc c 0 b (i + 4 + 4 * c)
 unfolding text
 slotted-first doc i c b g =
-    let e : i + 4 + 4 * c ≡ slot doc (count doc) = slot-is doc i c c g ∙ ap (slot doc) (g .count-is) in
+    let e = slots-end doc i c g in
     record {
       upto = omega arith;
       same = let z : c - 0 ≡ count doc = let n = g .count-is in omega arith in rw z;

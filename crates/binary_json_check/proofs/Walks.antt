@@ -5,16 +5,16 @@ use mathlib.Core.List.{List}
 use Prim.Native.Nat.{ℕ, zero, suc, _+_, _-_, _*_, _≤_, _<_}
 use native.Mathlib.Omega.{arith}
 use borrow.Author.Needs.{needs}
-use lib.Dec.{T, leb, ltb, le→leb, lt→ltb, ltb→lt}
+use lib.Dec.{T, leb, ltb, le→leb, lt→ltb}
 use mir.Syntax.{w64}
 use mir.Val.{Fits}
 use Rattle.json.specs.Reading.{Reading, refuse, ask, answers, refuses, told, _>>=_, need}
 use Rattle.json.specs.declared.Refusal.{Refusal}
 use Rattle.json.specs.declared.Verdict.{Verdict}
-use Rattle.json.proofs.Reading.{then, stops, pass, fail}
+use Rattle.json.proofs.Reading.{eq→eqb, over, past, unlike, then, stops, pass, fail}
 use Rattle.binary_json_rules.specs.Areas.{word, low, high, index, kObject, kindOf, typeOf}
 use Rattle.binary_json_rules.specs.Verdict.{slotNamed, keyEntries, entryBy, entry, entries, containerBy, container, scalar, rootBy}
-use Rattle.binary_json_rules.proofs.Complete.{eq→eqb}
+use Rattle.binary_json_rules.proofs.Cases.{by-kind, by-type}
 use Rattle.binary_json_areas.specs.Laid.{Laid}
 use Rattle.binary_json_areas.specs.Naming.{SlotNamed, NumberNamed}
 use Rattle.binary_json_check.specs.Walks.{toldWalk, onStep, Stepped, opened, Opened}
@@ -23,7 +23,6 @@ use Rattle.binary_json_areas.specs.declared.areas.Walk.{Walk}
 use Rattle.binary_json_areas.specs.declared.named.Numbered.{Numbered}
 use Rattle.binary_json_check.specs.declared.walk.Step.{Step}
 use Rattle.binary_json_check.specs.declared.walk.Opening.{Opening}
-use Rattle.binary_json_areas.proofs.Headers.{over, unlike}
 
 -- ---- rule 11
 
@@ -50,7 +49,7 @@ module _ (doc : List ℕ) (a : Areas) (first n left p at : ℕ) (x : Keyed doc a
   module _ (good : g ≡ true) where
     pub not-above : v ≤ p → refuses 11 at ≡ ask (keyEntries doc n 0 first)
     not-above h =
-        sym (then _ _ tt ((rw good at named) 11 at) ∙ fail _ _ _ _ tt (λ t. let l = ltb→lt p v t in omega arith)) ∙ (sym one-more ∙ x .same)
+        sym (then _ _ tt ((rw good at named) 11 at) ∙ fail _ _ _ _ tt (past h)) ∙ (sym one-more ∙ x .same)
 
     pub keyed-next : p < v → Keyed doc a first n (left - 1) v (at + 4)
     keyed-next h =
@@ -67,21 +66,14 @@ pub ruleset key-laws = (keyed-first, no-slot, not-above, keyed-next, keyed-done,
 
 module _ (doc : List ℕ) (at due : ℕ) (child : ℕ → Reading (Unit {0}) ℕ) where
   small-type : (n : ℕ) → n < 3 → ask (entryBy doc child at due (typeOf n)) ≡ answers due
-  unfolding entryBy typeOf
-  small-type zero h = refl
-  small-type (suc zero) h = refl
-  small-type (suc (suc zero)) h = refl
-  small-type (suc (suc (suc n))) h = absurd (omega arith)
+  unfolding entryBy
+  small-type =
+      by-type (λ n t. n < 3 → ask (entryBy doc child at due t) ≡ answers due) (λ h. refl) (λ h. refl) (λ h. refl) (λ h. absurd (omega arith)) (λ h. absurd (omega arith)) (λ h. absurd (omega arith)) (λ n h. absurd (omega arith))
 
   large-type : (n : ℕ) → 6 ≤ n → ask (entryBy doc child at due (typeOf n)) ≡ refuses 9 at
-  unfolding entryBy typeOf
-  large-type zero h = absurd (omega arith)
-  large-type (suc zero) h = absurd (omega arith)
-  large-type (suc (suc zero)) h = absurd (omega arith)
-  large-type (suc (suc (suc zero))) h = absurd (omega arith)
-  large-type (suc (suc (suc (suc zero)))) h = absurd (omega arith)
-  large-type (suc (suc (suc (suc (suc zero))))) h = absurd (omega arith)
-  large-type (suc (suc (suc (suc (suc (suc n)))))) h = refl
+  unfolding entryBy
+  large-type =
+      by-type (λ n t. 6 ≤ n → ask (entryBy doc child at due t) ≡ refuses 9 at) (λ h. absurd (omega arith)) (λ h. absurd (omega arith)) (λ h. absurd (omega arith)) (λ h. absurd (omega arith)) (λ h. absurd (omega arith)) (λ h. absurd (omega arith)) (λ n h. refl)
 
 module _ (doc : List ℕ) (at due kind value : ℕ) (ks : kind ≡ low doc at) (vs : value ≡ high doc at) where
   of-kind : (child : ℕ → Reading (Unit {0}) ℕ) → ask (entryBy doc child at due (typeOf kind)) ≡ ask (entry doc child at due)
@@ -153,29 +145,27 @@ module _ (doc : List ℕ) (a : Areas) (x : Laid doc a) (o : ℕ) where
       there : T (leb (o + 4) (index doc))
       there = let e = index-is in let q : o + 4 ≤ index doc = omega arith in le→leb _ _ q
 
-      by-kind : (child : ℕ → Reading (Unit {0}) ℕ) → ask (containerBy doc child o n (kindOf kind)) ≡ opened doc o child
+      opened-by : (child : ℕ → Reading (Unit {0}) ℕ) → ask (containerBy doc child o n (kindOf kind)) ≡ opened doc o child
       unfolding opened
-      by-kind child = sym (pass _ _ _ _ tt there ∙ rw (sym ks, sym ns))
+      opened-by child = sym (pass _ _ _ _ tt there ∙ rw (sym ks, sym ns))
 
       module _ (k0 : kind ≡ 0) where
         pub array-refused : a .index < o + 4 + 4 * n → Opened doc o (Opening.Refused (record { number = 8; place = o }))
         unfolding Opened containerBy kindOf
-        array-refused q child = sym (rw k0 (fail _ _ _ _ tt (over (rw index-is at q)))) ∙ by-kind child
+        array-refused q child = sym (rw k0 (fail _ _ _ _ tt (over (rw index-is at q)))) ∙ opened-by child
 
         pub array-opened : o + 4 + 4 * n ≤ a .index → Opened doc o (Opening.Body (o + 4) n)
         unfolding Opened containerBy kindOf
-        array-opened q = (rw index-is at q, λ child. sym (rw k0 (pass _ _ _ _ tt (le→leb _ _ (rw index-is at q)))) ∙ by-kind child)
+        array-opened q = (rw index-is at q, λ child. sym (rw k0 (pass _ _ _ _ tt (le→leb _ _ (rw index-is at q)))) ∙ opened-by child)
 
-      kind-over : (k : ℕ) → (k ≡ 0 → ⊥) → (k ≡ 1 → ⊥) → (child : ℕ → Reading (Unit {0}) ℕ) → ask (containerBy doc child o n (kindOf k)) ≡ refuses 8 o
-      unfolding containerBy kindOf
-      kind-over zero p q child = absurd (p refl)
-      kind-over (suc zero) p q child = absurd (q refl)
-      kind-over (suc (suc zero)) p q child = refl
-      kind-over (suc (suc (suc k))) p q child = refl
+      kind-over : (child : ℕ → Reading (Unit {0}) ℕ) (k : ℕ) → (k ≡ 0 → ⊥) → (k ≡ 1 → ⊥) → ask (containerBy doc child o n (kindOf k)) ≡ refuses 8 o
+      unfolding containerBy
+      kind-over child =
+          by-kind (λ k t. (k ≡ 0 → ⊥) → (k ≡ 1 → ⊥) → ask (containerBy doc child o n t) ≡ refuses 8 o) (λ p q. absurd (p refl)) (λ p q. absurd (q refl)) (λ p q. refl) (λ k p q. refl)
 
       pub kind-refused : (kind ≡ 0 → ⊥) → (kind ≡ 1 → ⊥) → Opened doc o (Opening.Refused (record { number = 8; place = o }))
       unfolding Opened
-      kind-refused p q child = sym (kind-over kind p q child) ∙ by-kind child
+      kind-refused p q child = sym (kind-over child kind p q) ∙ opened-by child
 
 pub ruleset open-laws = (past-index, no-meta, meta-inside, array-refused, array-opened, kind-refused, needs)
 
@@ -244,20 +234,19 @@ module _ (doc : List ℕ) (a : Areas) (x : Laid doc a) (levels o : ℕ) (some : 
       let j = g .0 in
       record { same = g .1 (container (levels - 1) doc) ∙ opened-is doc levels o some; inside = omega arith }
 
-module _ (doc : List ℕ) (a : Areas) (x : Laid doc a) (o : ℕ) (b : Opening) (h : Opened doc o b) where
-  pub body-fits : (f n : ℕ) → b ≡ Opening.Body f n → Fits w64 (4 * n)
+module _ (doc : List ℕ) (a : Areas) (x : Laid doc a) (o : ℕ) (b : Opening) (h : Opened doc o b) (f n : ℕ) (e : b ≡ Opening.Body f n) where
+  body-ends : f + 4 * n ≤ 65_536
   unfolding Opened
-  body-fits f n e =
+  body-ends =
       let g : Opened doc o (Opening.Body f n) = rw e at h in
       let i = x .framed .index-is in let j = g .0 in let k = x .framed .short in let m = x .framed .slots-inside in
       omega arith
 
-  pub due-fits : (f n : ℕ) → b ≡ Opening.Body f n → Fits w64 (f + 4 * n)
-  unfolding Opened
-  due-fits f n e =
-      let g : Opened doc o (Opening.Body f n) = rw e at h in
-      let i = x .framed .index-is in let j = g .0 in let k = x .framed .short in let m = x .framed .slots-inside in
-      omega arith
+  pub body-fits : Fits w64 (4 * n)
+  body-fits = let z = body-ends in omega arith
+
+  pub due-fits : Fits w64 (f + 4 * n)
+  due-fits = let z = body-ends in omega arith
 
 entries-suc : (doc : List ℕ) (child : ℕ → Reading (Unit {0}) ℕ) (l at due : ℕ) → ask (entries doc child (suc l) at due) ≡ ask (entry doc child at due >>= λ next. entries doc child l (at + 4) next)
 unfolding entries
@@ -314,11 +303,8 @@ module _ (doc : List ℕ) (kind : ℕ) (ks : kind ≡ low doc 4) (w : Walk) wher
   root-scalar e h = h ∙ rw (sym ks, e)
 
   walked : (k : ℕ) → (k ≡ 2 → ⊥) → ask (container 32 doc 4) ≡ ask (rootBy doc (kindOf k))
-  unfolding rootBy kindOf
-  walked zero h = refl
-  walked (suc zero) h = refl
-  walked (suc (suc zero)) h = absurd (h refl)
-  walked (suc (suc (suc k))) h = refl
+  unfolding rootBy
+  walked = by-kind (λ k t. (k ≡ 2 → ⊥) → ask (container 32 doc 4) ≡ ask (rootBy doc t)) (λ h. refl) (λ h. refl) (λ h. absurd (h refl)) (λ k h. refl)
 
   pub root-walked : (kind ≡ 2 → ⊥) → toldWalk w ≡ ask (container 32 doc 4) → toldWalk w ≡ ask (rootBy doc (kindOf (low doc 4)))
   root-walked e h = h ∙ (walked kind e ∙ ap (λ k. ask (rootBy doc (kindOf k))) ks)

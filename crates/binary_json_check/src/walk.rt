@@ -8,7 +8,6 @@ use json::Refusal;
 use json::Verdict;
 ghost use mathlib.Core.Path.{_≡_};
 ghost use Prim.Native.Nat.{_+_, _*_, _^_, _≤_, _<_};
-ghost use lib.ListN.{length};
 ghost use Rattle.json.specs.Reading.{told, ask};
 ghost use Rattle.binary_json_rules.specs.Areas.{low, high, kindOf};
 ghost use Rattle.binary_json_rules.specs.Verdict.{keyEntries, entry, container, scalar, rootBy};

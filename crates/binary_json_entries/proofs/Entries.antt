@@ -10,15 +10,16 @@ use lib.ListN.{length, take, drop}
 use mir.Syntax.{w64}
 use mir.Val.{Fits}
 use Rattle.json.specs.Bytes.{number}
-use Rattle.json.specs.Reading.{done, ask, answers, refuses, answer, _>>=_}
+use Rattle.json.specs.Reading.{done, Asked, ask, answers, refuses, answer, _>>=_}
 use Rattle.json.specs.Span.{spanned}
 use Rattle.json.specs.Span as Text
 use Rattle.json.specs.declared.Refusal.{Refusal}
 use Rattle.json.proofs.Reading.{then, stops, step, passed, need-done, done-answer}
 use Rattle.binary_json_rules.specs.Areas.{low, high, text, numbers, typeOf}
-use Rattle.binary_json_rules.specs.Questions.{opening, treeWord, slotRead, textNamed, slotText, slotBytes, typeBy, entryType, isContainer, isString, isNumber, containerAt, stringAt, stringBytes, numberAt}
+use Rattle.binary_json_rules.specs.Questions.{opening, treeWord, slotRead, textNamed, slotText, typeBy, entryType, isContainer, isString, isNumber, containerAt, stringAt, numberAt}
 use Rattle.binary_json_rules.specs.Verdict.{numberNamed}
 use Rattle.binary_json_rules.specs.TreeOf.{slotAt}
+use Rattle.binary_json_rules.proofs.Cases.{by-type}
 use Rattle.binary_json_areas.specs.Laid.{Laid}
 use Rattle.binary_json_areas.specs.Naming.{NumberNamed, TextNamed}
 use Rattle.binary_json_areas.specs.Asking.{Open, Opens, WordNamed, Placed, Places}
@@ -55,24 +56,13 @@ module _ (doc : List ℕ) (a : Areas) (c : ℕ) (x : Placed doc a c) (kind : ℕ
   to-type = sym (comes-to doc a c _ x ∙ rw (sym ks))
 
   small : (k : ℕ) → k < 6 → ask (typeBy c k (typeOf k)) ≡ answers k
-  unfolding typeBy typeOf
-  small zero h = refl
-  small (suc zero) h = refl
-  small (suc (suc zero)) h = refl
-  small (suc (suc (suc zero))) h = refl
-  small (suc (suc (suc (suc zero)))) h = refl
-  small (suc (suc (suc (suc (suc zero))))) h = refl
-  small (suc (suc (suc (suc (suc (suc k)))))) h = absurd (omega arith)
+  unfolding typeBy
+  small = by-type (λ k t. k < 6 → ask (typeBy c k t) ≡ answers k) (λ h. refl) (λ h. refl) (λ h. refl) (λ h. refl) (λ h. refl) (λ h. refl) (λ k h. absurd (omega arith))
 
   large : (k : ℕ) → 6 ≤ k → ask (typeBy c k (typeOf k)) ≡ refuses 21 c
-  unfolding typeBy typeOf
-  large zero h = absurd (omega arith)
-  large (suc zero) h = absurd (omega arith)
-  large (suc (suc zero)) h = absurd (omega arith)
-  large (suc (suc (suc zero))) h = absurd (omega arith)
-  large (suc (suc (suc (suc zero)))) h = absurd (omega arith)
-  large (suc (suc (suc (suc (suc zero))))) h = absurd (omega arith)
-  large (suc (suc (suc (suc (suc (suc k)))))) h = refl
+  unfolding typeBy
+  large =
+      by-type (λ k t. 6 ≤ k → ask (typeBy c k t) ≡ refuses 21 c) (λ h. absurd (omega arith)) (λ h. absurd (omega arith)) (λ h. absurd (omega arith)) (λ h. absurd (omega arith)) (λ h. absurd (omega arith)) (λ h. absurd (omega arith)) (λ k h. refl)
 
   pub typed : (t : ℕ) → kind ≡ t → T (ltb t 6) → answers t ≡ ask (entryType doc c)
   typed t e h = let l = ltb→lt t 6 h in ap answers (sym e) ∙ (sym (small kind (omega arith)) ∙ to-type)
@@ -100,14 +90,8 @@ module _ (doc : List ℕ) (c : ℕ) (p : Asking) (y : Places doc c p) (a : Areas
     to-container = sym (comes-to doc a c _ here ∙ rw (sym ks, sym vs))
 
     other-container : (k : ℕ) → (k ≡ 5 → ⊥) → ask (isContainer c (typeOf k)) ≡ refuses 21 c
-    unfolding isContainer typeOf
-    other-container zero q = refl
-    other-container (suc zero) q = refl
-    other-container (suc (suc zero)) q = refl
-    other-container (suc (suc (suc zero))) q = refl
-    other-container (suc (suc (suc (suc zero)))) q = refl
-    other-container (suc (suc (suc (suc (suc zero))))) q = absurd (q refl)
-    other-container (suc (suc (suc (suc (suc (suc k)))))) q = refl
+    unfolding isContainer
+    other-container = by-type (λ k t. (k ≡ 5 → ⊥) → ask (isContainer c t) ≡ refuses 21 c) (λ q. refl) (λ q. refl) (λ q. refl) (λ q. refl) (λ q. refl) (λ q. absurd (q refl)) (λ k q. refl)
 
     pub no-container : (kind ≡ 5 → ⊥) → refuses 21 c ≡ ask (containerAt doc c)
     no-container q = sym (stops _ _ tt (other-container kind q)) ∙ to-container
@@ -126,14 +110,8 @@ module _ (doc : List ℕ) (c : ℕ) (p : Asking) (y : Places doc c p) (a : Areas
     to-number = sym (comes-to doc a c _ here ∙ rw (sym ks, sym vs))
 
     other-number : (k : ℕ) → (k ≡ 4 → ⊥) → ask (isNumber c (typeOf k)) ≡ refuses 21 c
-    unfolding isNumber typeOf
-    other-number zero q = refl
-    other-number (suc zero) q = refl
-    other-number (suc (suc zero)) q = refl
-    other-number (suc (suc (suc zero))) q = refl
-    other-number (suc (suc (suc (suc zero)))) q = absurd (q refl)
-    other-number (suc (suc (suc (suc (suc zero))))) q = refl
-    other-number (suc (suc (suc (suc (suc (suc k)))))) q = refl
+    unfolding isNumber
+    other-number = by-type (λ k t. (k ≡ 4 → ⊥) → ask (isNumber c t) ≡ refuses 21 c) (λ q. refl) (λ q. refl) (λ q. refl) (λ q. refl) (λ q. absurd (q refl)) (λ q. refl) (λ k q. refl)
 
     pub no-number : (kind ≡ 4 → ⊥) → refuses 21 c ≡ ask (numberAt doc c)
     no-number q = sym (stops _ _ tt (other-number kind q)) ∙ to-number
@@ -158,14 +136,8 @@ module _ (doc : List ℕ) (c : ℕ) (p : Asking) (y : Places doc c p) (a : Areas
     to-string = sym (comes-to doc a c _ here ∙ rw (sym ks, sym vs))
 
     other-string : (k : ℕ) → (k ≡ 3 → ⊥) → ask (isString c (typeOf k)) ≡ refuses 21 c
-    unfolding isString typeOf
-    other-string zero q = refl
-    other-string (suc zero) q = refl
-    other-string (suc (suc zero)) q = refl
-    other-string (suc (suc (suc zero))) q = absurd (q refl)
-    other-string (suc (suc (suc (suc zero)))) q = refl
-    other-string (suc (suc (suc (suc (suc zero))))) q = refl
-    other-string (suc (suc (suc (suc (suc (suc k)))))) q = refl
+    unfolding isString
+    other-string = by-type (λ k t. (k ≡ 3 → ⊥) → ask (isString c t) ≡ refuses 21 c) (λ q. refl) (λ q. refl) (λ q. refl) (λ q. absurd (q refl)) (λ q. refl) (λ q. refl) (λ k q. refl)
 
     pub no-string : (kind ≡ 3 → ⊥) → refuses 21 c ≡ ask (stringAt doc c)
     no-string q = sym (stops _ _ tt (other-string kind q)) ∙ to-string
@@ -272,10 +244,7 @@ slot-text-inside doc c s e = span-inside doc s (λ x q.
     let s1 = step _ _ tt h in
     named-inside doc c c _ _ x (s1 .rest) (opening-inside doc c (s1 .first)))
 
-pub string-part : (doc : List ℕ) (c : ℕ) (s : Span) (l : List ℕ) → toldSpan s ≡ ask (stringAt doc c) → l ≡ spanned doc (toldSpan s) → l ≡ stringBytes doc c
-string-part doc c s l e q = q ∙ ap (spanned doc) e
+pub span-part : (doc l : List ℕ) (s : Span) (asked : Asked Text.Span) → toldSpan s ≡ asked → l ≡ spanned doc (toldSpan s) → l ≡ spanned doc asked
+span-part doc l s asked e q = q ∙ ap (spanned doc) e
 
-pub slot-part : (doc : List ℕ) (c : ℕ) (s : Span) (l : List ℕ) → toldSpan s ≡ ask (slotText doc c) → l ≡ spanned doc (toldSpan s) → l ≡ slotBytes doc c
-slot-part doc c s l e q = q ∙ ap (spanned doc) e
-
-pub ruleset whole-part-laws = (string-inside, slot-text-inside, string-part, slot-part, needs)
+pub ruleset whole-part-laws = (string-inside, slot-text-inside, span-part, needs)

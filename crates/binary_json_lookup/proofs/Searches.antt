@@ -1,12 +1,11 @@
 -- Both halvings and the scan, one law for each way through the functions of `lookup`.
 use mathlib.Core.Path.{_≡_, refl, sym, ap, _∙_}
-use mathlib.Core.Bool.{true}
+use mathlib.Core.Bool.{false}
 use mathlib.Core.List.{List}
 use Prim.Native.Nat.{ℕ, zero, suc, _+_, _-_, _*_, _≤_, _<_}
 use native.Mathlib.Omega.{arith}
 use borrow.Author.Needs.{needs}
 use borrow.Author.Tests.{lt-ltb, le-ltb}
-use lib.Dec.{ltb}
 use lib.ListN.{length, take, drop}
 use mir.Syntax.{w64}
 use mir.Val.{Fits}
@@ -37,6 +36,7 @@ use Rattle.binary_json_lookup.specs.declared.lookup.Halving.{Halving}
 use Rattle.binary_json_areas.specs.declared.named.Texted.{Texted}
 use Rattle.binary_json_metas.specs.declared.Object.{Object}
 use Rattle.binary_json_areas.proofs.Headers.{slot-is}
+use Rattle.binary_json_metas.proofs.Metas.{object-of, object-ends}
 
 -- ---- a text against a key
 
@@ -95,13 +95,10 @@ going-first : (item : ℕ → Item) (m : ℕ) → Going item m 0 m 0
 unfolding halve
 going-first item m = record { most = m; enough = omega arith; same = refl; ordered = omega arith; upto = omega arith; few = omega arith }
 
-ltb-yes : (m n : ℕ) → m < n → ltb m n ≡ true
-ltb-yes m n h = lt-ltb m n h
-
 module _ (item : ℕ → Item) (m low high turns : ℕ) (g : Going item m low high turns) where
   one-turn : (most : ℕ) → low < high → halveFrom (suc most) item low high turns ≡ turn (halveFrom most item) low (middle low high) high turns (item (middle low high))
   unfolding halveFrom halveIf
-  one-turn most h = rw (ltb-yes low high h)
+  one-turn most h = rw (lt-ltb low high h)
 
   went : low < high → (f : ℕ) × (high - low ≤ suc f) × (turn (halveFrom f item) low (middle low high) high turns (item (middle low high)) ≡ halve item m)
   went h =
@@ -184,31 +181,50 @@ module _ (doc x : List ℕ) (a : Areas) (l : Laid doc a) (low high turns : ℕ) 
 
 pub ruleset strings-laws = (strings-first, middle-string, turns-fit, middle-fits, next-fits, string-bad, string-below, string-above, string-found, string-missed, missed-within, needs)
 
+-- ---- places of an object
+
+module _ (doc : List ℕ) (a : Areas) (c n : ℕ) (x : ObjectAt doc a c n) where
+  pub begin-fits : Fits w64 (c + 4)
+  begin-fits = let z = object-ends doc a c n x in omega arith
+
+  pub keys-fit : Fits w64 (4 * n)
+  keys-fit = let z = object-ends doc a c n x in omega arith
+
+  pub entries-fit : Fits w64 (c + 4 + 4 * n)
+  entries-fit = let z = object-ends doc a c n x in omega arith
+
+  module _ (j : ℕ) (b : j < n) where
+    pub key-inside : c + 4 + 4 * j + 4 ≤ length doc
+    key-inside = let z = object-ends doc a c n x in omega arith
+
+    pub key-fits : Fits w64 (c + 4 + 4 * j)
+    key-fits = let z = object-ends doc a c n x in omega arith
+
+    pub step-fits : Fits w64 (4 * j)
+    step-fits = let z = object-ends doc a c n x in omega arith
+
+    pub entry-fits : Fits w64 (c + 4 + 4 * n + 4 * j)
+    entry-fits = let z = object-ends doc a c n x in omega arith
+
 -- ---- the KeyEntries
 
 pub keys-first : (doc : List ℕ) (c n v : ℕ) → Going (keyItem doc c v) n 0 n 0
 keys-first doc c n v = going-first (keyItem doc c v) n
 
 module _ (doc : List ℕ) (c n v low high turns : ℕ) (g : Going (keyItem doc c v) n low high turns) where
+  pub key-within : low < high → middle low high < n
+  key-within h = let u = g .upto in omega arith
+
   module _ (a : Areas) (x : ObjectAt doc a c n) (h : low < high) where
-    pub key-inside : c + 4 + 4 * middle low high + 4 ≤ length doc
-    key-inside = let u = g .upto in let i = x .inside in let s = x .laid .framed .slots-inside in omega arith
-
-    pub key-fits : Fits w64 (c + 4 + 4 * middle low high)
-    key-fits = let u = g .upto in let i = x .inside in let s = x .laid .framed .slots-inside in let b = x .laid .framed .short in omega arith
-
     pub key-turns-fit : Fits w64 (turns + 1)
-    key-turns-fit = let w = g .few in let i = x .inside in let s = x .laid .framed .slots-inside in let b = x .laid .framed .short in omega arith
+    key-turns-fit = let f = g .few in let z = object-ends doc a c n x in omega arith
 
     pub key-next-fits : Fits w64 (middle low high + 1)
-    key-next-fits = let u = g .upto in let i = x .inside in let s = x .laid .framed .slots-inside in let b = x .laid .framed .short in omega arith
+    key-next-fits = let u = g .upto in let z = object-ends doc a c n x in omega arith
 
   module _ (h : low < high) (w : ℕ) (e : w ≡ word doc (c + 4 + 4 * middle low high)) where
     pub key-found : w ≡ v → found (middle low high) (turns + 1) ≡ keys doc c n v
     key-found q = going-found (keyItem doc c v) n low high turns g h (ap compares (numbers-equal _ _ .1 (sym e ∙ q)))
-
-    pub key-within : middle low high < n
-    key-within = let u = g .upto in omega arith
 
     pub key-below : w < v → Going (keyItem doc c v) n (middle low high + 1) high (turns + 1)
     key-below q = going-up (keyItem doc c v) n low high turns g h (ap compares (numbers-below _ _ .1 (rw e at q)))
@@ -246,31 +262,12 @@ module _ (doc : List ℕ) (a : Areas) (c n k first : ℕ) (x : ObjectAt doc a c 
     unfolding afterKeys
     key-broken e = from-keys broken (ap toldHalving e)
 
-  module _ (f : Halving) (w : Within f n) (at turns : ℕ) (e : f ≡ Halving.Found at turns) where
-    at-below : at < n
-    at-below = rw e at w
+pub found-within : (f : Halving) (m at turns : ℕ) → Within f m → f ≡ Halving.Found at turns → at < m
+found-within f m at turns w e = rw e at w
 
-    pub found-begin-fits : Fits w64 (c + 4)
-    found-begin-fits = let i = x .inside in let s = x .laid .framed .slots-inside in let l = x .laid .framed .short in omega arith
-
-    pub found-keys-fit : Fits w64 (4 * n)
-    found-keys-fit = let i = x .inside in let s = x .laid .framed .slots-inside in let l = x .laid .framed .short in omega arith
-
-    pub found-entries-fit : Fits w64 (c + 4 + 4 * n)
-    found-entries-fit = let i = x .inside in let s = x .laid .framed .slots-inside in let l = x .laid .framed .short in omega arith
-
-    pub found-step-fits : Fits w64 (4 * at)
-    found-step-fits = let q = at-below in let i = x .inside in let s = x .laid .framed .slots-inside in let l = x .laid .framed .short in omega arith
-
-    pub found-entry-fits : Fits w64 (c + 4 + 4 * n + 4 * at)
-    found-entry-fits = let q = at-below in let i = x .inside in let s = x .laid .framed .slots-inside in let l = x .laid .framed .short in omega arith
-
-pub ruleset look-key-laws = (sought-fits, key-looked, key-not-looked, key-broken, found-begin-fits, found-keys-fit, found-entries-fit, found-step-fits, found-entry-fits, needs)
+pub ruleset look-key-laws = (sought-fits, key-looked, key-not-looked, key-broken, found-within, begin-fits, keys-fit, entries-fit, step-fits, entry-fits, needs)
 
 module _ (doc : List ℕ) (a : Areas) (c n : ℕ) (key : List ℕ) (x : ObjectAt doc a c n) (s : Halving) where
-  pub string-within : (at turns : ℕ) → Within s (a .count) → s ≡ Halving.Found at turns → at < a .count
-  string-within at turns w e = rw e at w
-
   pub object-areas : Laid doc a
   object-areas = x .laid
 
@@ -291,12 +288,9 @@ module _ (doc : List ℕ) (a : Areas) (c n : ℕ) (key : List ℕ) (x : ObjectAt
     unfolding afterStrings
     string-broken e = to-strings broken (ap toldHalving e)
 
-pub ruleset look-laws = (object-areas, string-within, string-looked, string-not-looked, string-broken, needs)
+pub ruleset look-laws = (object-areas, found-within, string-looked, string-not-looked, string-broken, needs)
 
 module _ (doc : List ℕ) (c : ℕ) (key : List ℕ) (o : Object) (x : ObjectRead doc c o) where
-  pub an-object : (a : Areas) (n : ℕ) → o ≡ Object.Of a n → ObjectAt doc a c n
-  an-object a n e = rw e at x
-
   pub lookup-stops : (r : Refusal) → o ≡ Object.Refused r → refuses (r .number) (r .place) ≡ ask (quickLookup doc c key)
   unfolding quickLookup
   lookup-stops r e = sym (stops _ _ tt (rw e at x))
@@ -305,7 +299,7 @@ module _ (doc : List ℕ) (c : ℕ) (key : List ℕ) (o : Object) (x : ObjectRea
   unfolding plainScan
   scan-stops r e = sym (stops _ _ tt (rw e at x))
 
-pub ruleset lookup-laws = (an-object, lookup-stops, scan-stops, needs)
+pub ruleset lookup-laws = (object-of, lookup-stops, scan-stops, needs)
 
 -- ---- the plain scan
 
@@ -324,19 +318,6 @@ unfolding scanFrom
 scan-suc doc c n key l j v e = rw e
 
 module _ (doc : List ℕ) (c n : ℕ) (key : List ℕ) (j : ℕ) (x : Scanning doc c n key j) where
-  module _ (a : Areas) (y : ObjectAt doc a c n) (b : j < n) where
-    pub scan-inside : c + 4 + 4 * j + 4 ≤ length doc
-    scan-inside = let i = y .inside in let s = y .laid .framed .slots-inside in omega arith
-
-    pub scan-key-fits : Fits w64 (c + 4 + 4 * j)
-    scan-key-fits = let i = y .inside in let s = y .laid .framed .slots-inside in let l = y .laid .framed .short in omega arith
-
-    pub scan-entries-fit : Fits w64 (c + 4 + 4 * n)
-    scan-entries-fit = let i = y .inside in let s = y .laid .framed .slots-inside in let l = y .laid .framed .short in omega arith
-
-    pub scan-entry-fits : Fits w64 (c + 4 + 4 * n + 4 * j)
-    scan-entry-fits = let i = y .inside in let s = y .laid .framed .slots-inside in let l = y .laid .framed .short in omega arith
-
   module _ (b : j < n) (v : ℕ) (e : v ≡ word doc (c + 4 + 4 * j)) (r : Compared) (h : TextCompared doc v key r) where
     one-member : ask (textNamed doc v c >>= λ s. choose (isEqual (compareTexts (part doc (s .place) (s .len)) key)) (answer (entry (entryOf c n j))) (scanFrom doc c n key (n - (j + 1)) (j + 1))) ≡ ask (plainScan doc c key)
     one-member =
@@ -356,16 +337,12 @@ module _ (doc : List ℕ) (c n : ℕ) (key : List ℕ) (j : ℕ) (x : Scanning d
       unfolding choose
       scan-found w = rw w at chosen
 
-      pub scan-below : o ≡ Below → Scanning doc c n key (j + 1)
+      pub scan-next : (m : Order) → o ≡ m → isEqual m ≡ false → Scanning doc c n key (j + 1)
       unfolding choose
-      scan-below w = record { upto = omega arith; same = rw w at chosen }
-
-      pub scan-above : o ≡ Above → Scanning doc c n key (j + 1)
-      unfolding choose
-      scan-above w = record { upto = omega arith; same = rw w at chosen }
+      scan-next m w z = record { upto = omega arith; same = rw (w, z) at chosen }
 
   pub scan-done : n ≤ j → answers absent ≡ ask (plainScan doc c key)
   unfolding scanFrom
   scan-done h = let z : n - j ≡ 0 = let u = x .upto in omega arith in rw z at (x .same)
 
-pub ruleset scan-laws = (scan-first, object-areas, scan-inside, scan-key-fits, scan-entries-fit, scan-entry-fits, scan-bad, scan-found, scan-below, scan-above, scan-done, needs)
+pub ruleset scan-laws = (scan-first, object-areas, key-inside, key-fits, entries-fit, entry-fits, scan-bad, scan-found, scan-next, scan-done, needs)

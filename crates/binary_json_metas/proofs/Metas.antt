@@ -5,13 +5,13 @@ use mathlib.Core.List.{List}
 use Prim.Native.Nat.{ℕ, zero, suc, _+_, _*_, _^_, _≤_, _<_}
 use native.Mathlib.Omega.{arith}
 use borrow.Author.Needs.{needs}
-use lib.Dec.{leb, ltb, le→leb, lt→ltb, ltb→lt}
+use lib.Dec.{leb, ltb, le→leb, lt→ltb}
 use lib.ListN.{length}
 use mir.Syntax.{w64}
 use mir.Val.{Fits}
 use Rattle.json.specs.Reading.{Reading, ask, answers, refuses, answer, _>>=_, need}
 use Rattle.json.specs.declared.Refusal.{Refusal}
-use Rattle.json.proofs.Reading.{then, stops, pass, fail}
+use Rattle.json.proofs.Reading.{over, past, then, stops, pass, fail}
 use Rattle.binary_json_rules.specs.Areas.{word, low, high, index, kindOf}
 use Rattle.binary_json_rules.specs.Questions.{body, bodyBy, kindAndSize, elementsBy, element, membersBy, object, memberAt}
 use Rattle.binary_json_rules.specs.Answers.{sized}
@@ -22,7 +22,7 @@ use Rattle.binary_json_metas.specs.Objects.{ObjectAt, ObjectRead}
 use Rattle.binary_json_areas.specs.declared.areas.Areas.{Areas}
 use Rattle.binary_json_areas.specs.declared.asking.Asking.{Asking}
 use Rattle.binary_json_metas.specs.declared.Object.{Object}
-use Rattle.binary_json_areas.proofs.Headers.{over}
+use Rattle.binary_json_rules.proofs.Cases.{by-kind}
 use Rattle.binary_json_areas.proofs.Openings.{comes-to, stops-before, place-of, meta-inside}
 
 -- the question was refused before its own rules
@@ -73,28 +73,26 @@ module _ (doc : List ℕ) (a : Areas) (c : ℕ) (x : Placed doc a c) (kind n : �
     object-sized h = sym (rw k1 (pass _ _ _ _ tt (le→leb _ _ (rw index-is at h)))) ∙ to-body
 
   body-over : (k : ℕ) → 2 < k → ask (bodyBy doc c n (kindOf k) >>= λ _. answer (sized k n)) ≡ refuses 21 c
-  unfolding bodyBy kindOf
-  body-over zero h = absurd (omega arith)
-  body-over (suc zero) h = absurd (omega arith)
-  body-over (suc (suc zero)) h = absurd (omega arith)
-  body-over (suc (suc (suc k))) h = stops _ _ tt refl
+  unfolding bodyBy
+  body-over =
+      by-kind (λ k t. 2 < k → ask (bodyBy doc c n t >>= λ _. answer (sized k n)) ≡ refuses 21 c) (λ h. absurd (omega arith)) (λ h. absurd (omega arith)) (λ h. absurd (omega arith)) (λ k h. stops _ _ tt refl)
 
   pub kind-over : 2 < kind → refuses 21 c ≡ ask (kindAndSize doc c)
   kind-over h = sym (body-over kind h) ∙ to-body
 
-  body-of : (k : ℕ) → (k ≡ 1 → ⊥) → k ≤ 2 → ask (bodyBy doc c n (kindOf k) >>= λ _. answer (sized k n)) ≡ ask (need (leb (c + 4 + 4 * n) (index doc)) 20 c >>= λ _. answer (sized k n))
-  unfolding bodyBy body kindOf
-  body-of zero p h = refl
-  body-of (suc zero) p h = absurd (p refl)
-  body-of (suc (suc zero)) p h = refl
-  body-of (suc (suc (suc k))) p h = absurd (omega arith)
+  body-of : (k : ℕ) → (k ≡ 1 → ⊥) → k ≤ 2 → ask (bodyBy doc c n (kindOf k) >>= λ _. answer (sized k n)) ≡ ask (body doc c n >>= λ _. answer (sized k n))
+  unfolding bodyBy
+  body-of =
+      by-kind (λ k t. (k ≡ 1 → ⊥) → k ≤ 2 → ask (bodyBy doc c n t >>= λ _. answer (sized k n)) ≡ ask (body doc c n >>= λ _. answer (sized k n))) (λ p h. refl) (λ p h. absurd (p refl)) (λ p h. refl) (λ k p h. absurd (omega arith))
 
   module _ (p : kind ≡ 1 → ⊥) (low-kind : kind ≤ 2) where
     pub body-cut : a .index < c + 4 + 4 * n → refuses 20 c ≡ ask (kindAndSize doc c)
+    unfolding body
     body-cut h = sym (body-of kind p low-kind ∙ fail _ _ _ _ tt (over (rw index-is at h))) ∙ to-body
 
     module _ (fits : c + 4 + 4 * n ≤ a .index) where
       sized-is : answers (sized kind n) ≡ ask (kindAndSize doc c)
+      unfolding body
       sized-is = sym (body-of kind p low-kind ∙ pass _ _ _ _ tt (le→leb _ _ (rw index-is at fits))) ∙ to-body
 
       pub array-sized : kind ≡ 0 → answers (sized 0 n) ≡ ask (kindAndSize doc c)
@@ -110,38 +108,37 @@ module _ (doc : List ℕ) (a : Areas) (c : ℕ) (x : Placed doc a c) (kind n : �
     unfolding element
     to-elements = sym (comes-to doc a c _ x ∙ rw (sym ks, sym ns))
 
-    elements-over : (k : ℕ) → (f : Unit {0} → Reading (Unit {0}) ℕ) → 2 < k → ask (elementsBy doc c n (kindOf k) >>= f) ≡ refuses 21 c
-    unfolding elementsBy kindOf
-    elements-over zero f h = absurd (omega arith)
-    elements-over (suc zero) f h = absurd (omega arith)
-    elements-over (suc (suc zero)) f h = absurd (omega arith)
-    elements-over (suc (suc (suc k))) f h = stops _ _ tt refl
+    elements-over : (f : Unit {0} → Reading (Unit {0}) ℕ) (k : ℕ) → 2 < k → ask (elementsBy doc c n (kindOf k) >>= f) ≡ refuses 21 c
+    unfolding elementsBy
+    elements-over f =
+        by-kind (λ k t. 2 < k → ask (elementsBy doc c n t >>= f) ≡ refuses 21 c) (λ h. absurd (omega arith)) (λ h. absurd (omega arith)) (λ h. absurd (omega arith)) (λ k h. stops _ _ tt refl)
 
-    elements-of : (k : ℕ) → (f : Unit {0} → Reading (Unit {0}) ℕ) → (k ≡ 1 → ⊥) → k ≤ 2 → ask (elementsBy doc c n (kindOf k) >>= f) ≡ ask (need (leb (c + 4 + 4 * n) (index doc)) 20 c >>= f)
-    unfolding elementsBy body kindOf
-    elements-of zero f p h = refl
-    elements-of (suc zero) f p h = absurd (p refl)
-    elements-of (suc (suc zero)) f p h = refl
-    elements-of (suc (suc (suc k))) f p h = absurd (omega arith)
+    elements-of : (f : Unit {0} → Reading (Unit {0}) ℕ) (k : ℕ) → (k ≡ 1 → ⊥) → k ≤ 2 → ask (elementsBy doc c n (kindOf k) >>= f) ≡ ask (body doc c n >>= f)
+    unfolding elementsBy
+    elements-of f =
+        by-kind (λ k t. (k ≡ 1 → ⊥) → k ≤ 2 → ask (elementsBy doc c n t >>= f) ≡ ask (body doc c n >>= f)) (λ p h. refl) (λ p h. absurd (p refl)) (λ p h. refl) (λ k p h. absurd (omega arith))
 
     pub element-of-object : kind ≡ 1 → refuses 21 c ≡ ask (element doc c i)
     unfolding elementsBy kindOf
     element-of-object e = sym (rw e (stops _ _ tt refl)) ∙ to-elements
 
     pub element-of-other : 2 < kind → refuses 21 c ≡ ask (element doc c i)
-    element-of-other h = sym (elements-over kind _ h) ∙ to-elements
+    element-of-other h = sym (elements-over _ kind h) ∙ to-elements
 
     module _ (p : kind ≡ 1 → ⊥) (low-kind : kind ≤ 2) where
       pub elements-cut : a .index < c + 4 + 4 * n → refuses 20 c ≡ ask (element doc c i)
-      elements-cut h = sym (elements-of kind _ p low-kind ∙ fail _ _ _ _ tt (over (rw index-is at h))) ∙ to-elements
+      unfolding body
+      elements-cut h = sym (elements-of _ kind p low-kind ∙ fail _ _ _ _ tt (over (rw index-is at h))) ∙ to-elements
 
       module _ (fits : c + 4 + 4 * n ≤ a .index) where
         pub element-past : n ≤ i → refuses 22 c ≡ ask (element doc c i)
+        unfolding body
         element-past h =
-            sym (elements-of kind _ p low-kind ∙ (pass _ _ _ _ tt (le→leb _ _ (rw index-is at fits)) ∙ fail _ _ _ _ tt (λ t. let l = ltb→lt i n t in omega arith))) ∙ to-elements
+            sym (elements-of _ kind p low-kind ∙ (pass _ _ _ _ tt (le→leb _ _ (rw index-is at fits)) ∙ fail _ _ _ _ tt (past h))) ∙ to-elements
 
         pub element-found : i < n → answers (c + 4 + 4 * i) ≡ ask (element doc c i)
-        element-found h = sym (elements-of kind _ p low-kind ∙ (pass _ _ _ _ tt (le→leb _ _ (rw index-is at fits)) ∙ pass _ _ _ _ tt (lt→ltb _ _ h))) ∙ to-elements
+        unfolding body
+        element-found h = sym (elements-of _ kind p low-kind ∙ (pass _ _ _ _ tt (le→leb _ _ (rw index-is at fits)) ∙ pass _ _ _ _ tt (lt→ltb _ _ h))) ∙ to-elements
 
 pub element-fits : (doc : List ℕ) (a : Areas) (c : ℕ) (n i : ℕ) → Placed doc a c → c + 4 + 4 * n ≤ a .index → i < n → Fits w64 (c + 4 + 4 * i)
 element-fits doc a c n i x h b = let s = x .open-at .laid .framed .slots-inside in let l = x .open-at .laid .framed .short in omega arith
@@ -171,11 +168,9 @@ module _ (doc : List ℕ) (c : ℕ) (p : Asking) (y : Places doc c p) (a : Areas
     to-members = sym (comes-to doc a c _ (place-of doc c p y a e) ∙ rw (sym ks, sym ns))
 
     other : (k : ℕ) → (k ≡ 1 → ⊥) → ask (membersBy doc c n (kindOf k) >>= λ _. answer n) ≡ refuses 21 c
-    unfolding membersBy kindOf
-    other zero q = stops _ _ tt refl
-    other (suc zero) q = absurd (q refl)
-    other (suc (suc zero)) q = stops _ _ tt refl
-    other (suc (suc (suc k))) q = stops _ _ tt refl
+    unfolding membersBy
+    other =
+        by-kind (λ k t. (k ≡ 1 → ⊥) → ask (membersBy doc c n t >>= λ _. answer n) ≡ refuses 21 c) (λ q. stops _ _ tt refl) (λ q. absurd (q refl)) (λ q. stops _ _ tt refl) (λ k q. stops _ _ tt refl)
 
     pub no-object : (kind ≡ 1 → ⊥) → ask (object doc c) ≡ refuses 21 c
     no-object q = sym to-members ∙ other kind q
@@ -197,50 +192,60 @@ pub ruleset object-laws = (object-stops, object-inside, start-fits, members-fit,
 
 -- ---- member j
 
+pub object-of : (doc : List ℕ) (c : ℕ) (o : Object) → ObjectRead doc c o → (a : Areas) (n : ℕ) → o ≡ Object.Of a n → ObjectAt doc a c n
+object-of doc c o x a n e = rw e at x
+
+-- an object ends in the document, which is short
+pub object-ends : (doc : List ℕ) (a : Areas) (c n : ℕ) → ObjectAt doc a c n → (c + 4 + 4 * (2 * n) + 4 ≤ length doc) × (length doc ≤ 65_536)
+object-ends doc a c n x = let i = x .inside in let s = x .laid .framed .slots-inside in (omega arith, x .laid .framed .short)
+
 pub member-stops : (doc : List ℕ) (c j : ℕ) (o : Object) (r : Refusal) → ObjectRead doc c o → o ≡ Object.Refused r → refuses (r .number) (r .place) ≡ ask (memberAt doc c j)
 unfolding memberAt
 member-stops doc c j o r x e = sym (stops _ _ tt (rw e at x))
 
 module _ (doc : List ℕ) (c j : ℕ) (o : Object) (x : ObjectRead doc c o) (a : Areas) (n : ℕ) (e : o ≡ Object.Of a n) where
-  pub object-of : ObjectAt doc a c n
-  object-of = rw e at x
+  here : ObjectAt doc a c n
+  here = object-of doc c o x a n e
+
+  ends : (c + 4 + 4 * (2 * n) + 4 ≤ length doc) × (length doc ≤ 65_536)
+  ends = object-ends doc a c n here
 
   pub object-laid : Laid doc a
-  object-laid = object-of .laid
+  object-laid = here .laid
 
   pub member-past : n ≤ j → refuses 22 c ≡ ask (memberAt doc c j)
   unfolding memberAt
-  member-past h = sym (then _ _ tt (object-of .answered) ∙ fail _ _ _ _ tt (λ t. let l = ltb→lt j n t in omega arith))
+  member-past h = sym (then _ _ tt (here .answered) ∙ fail _ _ _ _ tt (past h))
 
   module _ (b : j < n) where
     pub key-inside : c + 4 + 4 * j + 4 ≤ length doc
-    key-inside = let i = object-of .inside in let s = object-of .laid .framed .slots-inside in omega arith
+    key-inside = let z = ends in omega arith
 
     pub key-fits : Fits w64 (c + 4 + 4 * j)
-    key-fits = let i = object-of .inside in let s = object-of .laid .framed .slots-inside in let l = object-of .laid .framed .short in omega arith
+    key-fits = let z = ends in omega arith
 
     pub four-fits : Fits w64 (4 * j)
-    four-fits = let i = object-of .inside in let s = object-of .laid .framed .slots-inside in let l = object-of .laid .framed .short in omega arith
+    four-fits = let z = ends in omega arith
 
     pub begin-fits : Fits w64 (c + 4)
-    begin-fits = let i = object-of .inside in let s = object-of .laid .framed .slots-inside in let l = object-of .laid .framed .short in omega arith
+    begin-fits = let z = ends in omega arith
 
     pub keys-fit : Fits w64 (4 * n)
-    keys-fit = let i = object-of .inside in let s = object-of .laid .framed .slots-inside in let l = object-of .laid .framed .short in omega arith
+    keys-fit = let z = ends in omega arith
 
     pub entries-fit : Fits w64 (c + 4 + 4 * n)
-    entries-fit = let i = object-of .inside in let s = object-of .laid .framed .slots-inside in let l = object-of .laid .framed .short in omega arith
+    entries-fit = let z = ends in omega arith
 
     pub entry-fits : Fits w64 (c + 4 + 4 * n + 4 * j)
-    entry-fits = let i = object-of .inside in let s = object-of .laid .framed .slots-inside in let l = object-of .laid .framed .short in omega arith
+    entry-fits = let z = ends in omega arith
 
     module _ (v : ℕ) (vs : v ≡ word doc (c + 4 + 4 * j)) (g : Bool) (named : SlotNamed doc v g) where
       pub key-refused : g ≡ false → refuses 20 c ≡ ask (memberAt doc c j)
       unfolding memberAt
-      key-refused q = sym (then _ _ tt (object-of .answered) ∙ (pass _ _ _ _ tt (lt→ltb _ _ b) ∙ rw (sym vs) (stops _ _ tt ((rw q at named) 20 c))))
+      key-refused q = sym (then _ _ tt (here .answered) ∙ (pass _ _ _ _ tt (lt→ltb _ _ b) ∙ rw (sym vs) (stops _ _ tt ((rw q at named) 20 c))))
 
       pub member-found : g ≡ true → answers (record { slot = v; entry = c + 4 + 4 * n + 4 * j }) ≡ ask (memberAt doc c j)
       unfolding memberAt
-      member-found q = sym (then _ _ tt (object-of .answered) ∙ (pass _ _ _ _ tt (lt→ltb _ _ b) ∙ rw (sym vs) (then _ _ tt ((rw q at named) 20 c))))
+      member-found q = sym (then _ _ tt (here .answered) ∙ (pass _ _ _ _ tt (lt→ltb _ _ b) ∙ rw (sym vs) (then _ _ tt ((rw q at named) 20 c))))
 
 pub ruleset member-laws = (member-stops, object-laid, member-past, key-inside, key-fits, four-fits, begin-fits, keys-fit, entries-fit, entry-fits, key-refused, member-found, needs)

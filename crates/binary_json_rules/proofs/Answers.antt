@@ -1,24 +1,25 @@
 -- Questions put to a container or an Entry of a good document are answered from the tree that it stands for.
-use mathlib.Core.Path.{_≡_, refl, sym, _∙_}
+use mathlib.Core.Path.{_≡_, refl, _∙_}
 use mathlib.Core.Bool.{Bool, true, false}
 use mathlib.Core.List.{List}
 use Prim.Native.Nat.{ℕ, zero, suc, _+_, _-_, _*_, _≤_, _<_}
 use native.Mathlib.Omega.{arith}
 use native.Mathlib.Decide.{ℕ-discrete}
-use lib.Dec.{ltb, leb, le→leb, lt→ltb, ltb→lt}
+use lib.Dec.{ltb, leb, le→leb, lt→ltb}
 use lib.ListN.{length}
 use Rattle.json.specs.Reading.{Reading, answer, ask, answers, refuses, _>>=_, need}
 use Rattle.json.specs.Bytes.{number, part}
 use Rattle.json.specs.Span.{Span}
 use Rattle.json.specs.Tree.{Tree, null, bool, num, str, arr, obj, Trees, Members, member, end, size, sizem, MemberIs, IsContainer, NoNumber, NoString, NoObject, NoContainer}
-use Rattle.json.proofs.Reading.{then, stops, pass, fail, need-yes}
+use Rattle.json.proofs.Reading.{eq→eqb, past, then, stops, pass, fail, need-yes}
 use Rattle.binary_json_rules.specs.Areas.{word, low, high, index, count, slot, text, content, numbers, Kind, kArray, kObject, kScalar, kOther, kindOf, EntryType, tFalse, tTrue, tNull, tString, tNumber, tContainer, tOther, typeOf}
 use Rattle.binary_json_rules.specs.Meaning.{SlotIs, Meta, EntryIs, MembersAre, ContainerIs, Means}
 use Rattle.binary_json_rules.specs.Questions.{opening, treeWord, body, bodyBy, kindAndSize, elementsBy, element, membersBy, object, keyEntryOf, entryOf, memberAt, slotRead, textNamed, slotText, slotBytes, typeBy, entryType, isContainer, isString, isNumber, containerAt, stringAt, numberAt}
 use Rattle.binary_json_rules.specs.Answers.{sized, sizedAs, typedAs}
-use Rattle.binary_json_rules.proofs.Complete.{eq→eqb, slot-named, number-named, header-done}
+use Rattle.binary_json_rules.proofs.Complete.{slot-named, number-named, header-done}
 use Rattle.binary_json_rules.proofs.Trees.{slot-at}
-use Rattle.binary_json_rules.proofs.Nodes.{Aligned}
+use Rattle.binary_json_rules.proofs.Nodes.{Aligned, scalar-is}
+use Rattle.binary_json_rules.proofs.Cases.{by-kind, by-type}
 
 -- ---- the numbers of kinds and types
 
@@ -34,12 +35,8 @@ Known kObject = Unit {0}
 Known kScalar = Unit {0}
 Known kOther = ⊥
 
-kind-number : (n : ℕ) (k : Kind) → Known k → kindOf n ≡ k → n ≡ kindNumber k
-unfolding kindOf
-kind-number zero k o e = rw (← e) refl
-kind-number (suc zero) k o e = rw (← e) refl
-kind-number (suc (suc zero)) k o e = rw (← e) refl
-kind-number (suc (suc (suc n))) k o e = absurd (rw (sym e) at o)
+kind-number : (n : ℕ) → Known (kindOf n) → n ≡ kindNumber (kindOf n)
+kind-number = by-kind (λ n k. Known k → n ≡ kindNumber k) (λ o. refl) (λ o. refl) (λ o. refl) (λ n o. absurd o)
 
 abbrev typeNumber : EntryType → ℕ
 typeNumber tFalse = 0
@@ -59,15 +56,8 @@ KnownType tNumber = Unit {0}
 KnownType tContainer = Unit {0}
 KnownType tOther = ⊥
 
-type-number : (n : ℕ) (k : EntryType) → KnownType k → typeOf n ≡ k → n ≡ typeNumber k
-unfolding typeOf
-type-number zero k o e = rw (← e) refl
-type-number (suc zero) k o e = rw (← e) refl
-type-number (suc (suc zero)) k o e = rw (← e) refl
-type-number (suc (suc (suc zero))) k o e = rw (← e) refl
-type-number (suc (suc (suc (suc zero)))) k o e = rw (← e) refl
-type-number (suc (suc (suc (suc (suc zero))))) k o e = rw (← e) refl
-type-number (suc (suc (suc (suc (suc (suc n)))))) k o e = absurd (rw (sym e) at o)
+type-number : (n : ℕ) → KnownType (typeOf n) → n ≡ typeNumber (typeOf n)
+type-number = by-type (λ n k. KnownType k → n ≡ typeNumber k) (λ o. refl) (λ o. refl) (λ o. refl) (λ o. refl) (λ o. refl) (λ o. refl) (λ n o. absurd o)
 
 module _ (doc : List ℕ) (t : Tree) (m : Means doc t) where
   -- ---- the areas
@@ -118,7 +108,7 @@ module _ (doc : List ℕ) (t : Tree) (m : Means doc t) where
   kind-by c n w k o h z b =
       let fits = h .inside in
       comes-to c _ z (omega arith)
-      ∙ rw (h .kind-is, h .size-is) (then _ _ tt (b ∙ need-yes _ _ _ tt (le→leb _ _ fits)) ∙ rw (kind-number (low doc c) k o (h .kind-is)))
+      ∙ rw (h .kind-is, h .size-is) (then _ _ tt (b ∙ need-yes _ _ _ tt (le→leb _ _ fits)) ∙ rw ((rw (h .kind-is) at (kind-number (low doc c))) o))
 
   pub kind-answer : (c : ℕ) (u : Tree) → ContainerIs doc u c → Aligned c → ask (kindAndSize doc c) ≡ answers (sizedAs u)
   unfolding bodyBy body sizedAs
@@ -144,7 +134,7 @@ module _ (doc : List ℕ) (t : Tree) (m : Means doc t) where
 
   pub element-past : (c i : ℕ) (ts : Trees) → ContainerIs doc (arr ts) c → Aligned c → size ts ≤ i → ask (element doc c i) ≡ refuses 22 c
   unfolding elementsBy body
-  element-past c i ts h z b = elements c i (size ts) kArray (h .0) z refl ∙ fail _ _ _ _ tt (λ x. let y = ltb→lt i (size ts) x in omega arith)
+  element-past c i ts h z b = elements c i (size ts) kArray (h .0) z refl ∙ fail _ _ _ _ tt (past b)
 
   pub element-wrong : (c i : ℕ) (ms : Members) → ContainerIs doc (obj ms) c → Aligned c → ask (element doc c i) ≡ refuses 21 c
   unfolding element elementsBy
@@ -157,21 +147,13 @@ module _ (doc : List ℕ) (t : Tree) (m : Means doc t) where
   unfolding elementsBy body
   scalar-by c i h z = elements c i 1 kScalar h z refl
 
-  scalar-meta : (c : ℕ) (u : Tree) → NoContainer u → ContainerIs doc u c → Meta doc c kScalar 1 1
-  scalar-meta c null n h = h .0
-  scalar-meta c (bool b) n h = h .0
-  scalar-meta c (num s x) n h = h .0
-  scalar-meta c (str s) n h = h .0
-  scalar-meta c (arr ts) n h = absurd (n tt)
-  scalar-meta c (obj ms) n h = absurd (n tt)
-
   pub scalar-answer : (c : ℕ) (u : Tree) → NoContainer u → ContainerIs doc u c → Aligned c → ask (element doc c 0) ≡ answers (c + 4)
   scalar-answer c u n h z =
       let e : c + 4 + 4 * 0 ≡ c + 4 = omega arith in
-      scalar-by c 0 (scalar-meta c u n h) z ∙ rw e (pass _ _ _ _ tt tt)
+      scalar-by c 0 (scalar-is doc u c n h .0) z ∙ rw e (pass _ _ _ _ tt tt)
 
   pub scalar-past : (c i : ℕ) (u : Tree) → NoContainer u → ContainerIs doc u c → Aligned c → 1 ≤ i → ask (element doc c i) ≡ refuses 22 c
-  scalar-past c i u n h z b = scalar-by c i (scalar-meta c u n h) z ∙ fail _ _ _ _ tt (λ x. let y = ltb→lt i 1 x in omega arith)
+  scalar-past c i u n h z b = scalar-by c i (scalar-is doc u c n h .0) z ∙ fail _ _ _ _ tt (past b)
 
   -- ---- objects: member j, and what both lookups begin with
 
@@ -214,7 +196,7 @@ module _ (doc : List ℕ) (t : Tree) (m : Means doc t) where
 
   pub member-past : (c j : ℕ) (ms : Members) → ContainerIs doc (obj ms) c → Aligned c → sizem ms ≤ j → ask (memberAt doc c j) ≡ refuses 22 c
   unfolding memberAt
-  member-past c j ms h z b = then _ _ tt (object-answer c ms h z) ∙ fail _ _ _ _ tt (λ x. let y = ltb→lt j (sizem ms) x in omega arith)
+  member-past c j ms h z b = then _ _ tt (object-answer c ms h z) ∙ fail _ _ _ _ tt (past b)
 
   pub member-wrong : (c j : ℕ) (u : Tree) → NoObject u → ContainerIs doc u c → Aligned c → ask (memberAt doc c j) ≡ refuses 21 c
   unfolding memberAt
@@ -253,7 +235,7 @@ module _ (doc : List ℕ) (t : Tree) (m : Means doc t) where
   type-by : (a : ℕ) (k : EntryType) → KnownType k → typeOf (low doc a) ≡ k → Aligned a → a + 4 ≤ index doc → ask (typeBy a (typeNumber k) k) ≡ answers (typeNumber k)
       → ask (entryType doc a) ≡ answers (typeNumber k)
   unfolding entryType
-  type-by a k o e z i h = comes-to a _ z i ∙ rw (e, type-number (low doc a) k o e) h
+  type-by a k o e z i h = comes-to a _ z i ∙ rw (e, (rw e at (type-number (low doc a))) o) h
 
   pub type-answer : (a : ℕ) (v : Tree) → EntryIs doc v a → Aligned a → a + 4 ≤ index doc → ask (entryType doc a) ≡ answers (typedAs v)
   unfolding typeBy typedAs
@@ -286,26 +268,18 @@ module _ (doc : List ℕ) (t : Tree) (m : Means doc t) where
 
   -- the container of an Entry
 
-  pub container-type : (a : ℕ) (v : Tree) → IsContainer v → EntryIs doc v a → typeOf (low doc a) ≡ tContainer
-  container-type a null n h = absurd n
-  container-type a (bool b) n h = absurd n
-  container-type a (num s x) n h = absurd n
-  container-type a (str s) n h = absurd n
-  container-type a (arr ts) n h = h .0
-  container-type a (obj ms) n h = h .0
-
-  pub container-named : (a : ℕ) (v : Tree) → IsContainer v → EntryIs doc v a → ContainerIs doc v (high doc a)
+  pub container-named : (a : ℕ) (v : Tree) → IsContainer v → EntryIs doc v a → (typeOf (low doc a) ≡ tContainer) × ContainerIs doc v (high doc a)
   container-named a null n h = absurd n
   container-named a (bool b) n h = absurd n
   container-named a (num s x) n h = absurd n
   container-named a (str s) n h = absurd n
-  container-named a (arr ts) n h = h .1
-  container-named a (obj ms) n h = h .1
+  container-named a (arr ts) n h = h
+  container-named a (obj ms) n h = h
 
   pub container-answer : (a : ℕ) (v : Tree) → IsContainer v → EntryIs doc v a → Aligned a → a + 4 ≤ index doc → Aligned (high doc a) → ask (containerAt doc a) ≡ answers (high doc a)
   unfolding containerAt isContainer
   container-answer a v n h z i y =
-      comes-to a _ z i ∙ rw (container-type a v n h) (then _ _ tt refl ∙ then _ _ tt (word-in (high doc a) a y (body-inside v (high doc a) (container-named a v n h))))
+      comes-to a _ z i ∙ rw (container-named a v n h .0) (then _ _ tt refl ∙ then _ _ tt (word-in (high doc a) a y (body-inside v (high doc a) (container-named a v n h .1))))
 
   no-container : (a : ℕ) (v : Tree) → NoContainer v → ask (isContainer a (typeFor v)) ≡ refuses 21 a
   unfolding isContainer

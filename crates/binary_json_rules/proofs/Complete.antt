@@ -4,21 +4,18 @@ use mathlib.Core.Bool.{true, false}
 use mathlib.Core.List.{List}
 use Prim.Native.Nat.{ℕ, zero, suc, _+_, _-_, _*_, _%_, _≤_, _<_}
 use native.Mathlib.Omega.{arith}
-use lib.Dec.{T, eqb, le→leb, lt→ltb, eqb-refl}
-use Rattle.json.specs.Reading.{done, Reading, _>>=_}
+use lib.Dec.{T, le→leb, lt→ltb, eqb-refl}
+use Rattle.json.specs.Reading.{done, Reading}
 use Rattle.json.specs.Bytes.{number}
 use Rattle.json.specs.Limits.{deepest}
 use Rattle.json.specs.Number.{binary64, finite}
 use Rattle.json.specs.Texts.{compareTexts}
 use Rattle.json.specs.declared.Order.the-variants.{Below}
 use Rattle.json.specs.Tree.{Tree, null, bool, num, str, arr, obj, Trees, none, more, Members, end, member, size, sizem, depth, depths, depthm}
-use Rattle.json.proofs.Reading.{then, pass, need-yes}
+use Rattle.json.proofs.Reading.{eq→eqb, then, pass, need-yes}
 use Rattle.binary_json_rules.specs.Areas.{word, low, index, count, slot, content, numbers, kindOf}
 use Rattle.binary_json_rules.specs.Meaning.{SlotIs, NumberIs, EntryIs, EntriesAre, MembersAre, ScalarIs, ContainerIs, Fills, FillsAll, FillsMembers, RootFills, SlotGood, Means}
 use Rattle.binary_json_rules.specs.Verdict.{header, ascends, slotRules, slots, slotNamed, numberNamed, keyEntries, entryBy, entry, entries, containerBy, container, scalar, rootBy, check}
-
-pub eq→eqb : {m n : ℕ} → m ≡ n → T (eqb m n)
-eq→eqb {m} {n} e = rw e (eqb-refl n)
 
 module _ {S : Type 0} (doc : List ℕ) (s : S) where
   -- ---- what a word names

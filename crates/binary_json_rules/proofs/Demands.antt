@@ -87,7 +87,7 @@ module _ (doc : List ℕ) (t : Tree) (m : Means doc t) where
 
     -- a scalar alone is element 0 of its container of kind 2
     pub element-of-scalar : (u : Tree) → NoContainer u → ContainerIs doc u c → (ask (element doc c 0) ≡ answers (c + 4)) × EntryIs doc u (c + 4)
-    element-of-scalar u n h = (Answers.scalar-answer doc t m c u n h aligned, Nodes.scalar-is doc u c n h)
+    element-of-scalar u n h = (Answers.scalar-answer doc t m c u n h aligned, Nodes.scalar-is doc u c n h .1)
 
     pub element-past-scalar : (u : Tree) (i : ℕ) → NoContainer u → ContainerIs doc u c → 1 ≤ i → ask (element doc c i) ≡ refuses 22 c
     element-past-scalar u i n h b = Answers.scalar-past doc t m c i u n h aligned b
@@ -132,11 +132,8 @@ module _ (doc : List ℕ) (t : Tree) (m : Means doc t) where
       pub container-of-entry : (v : Tree) → IsContainer v → EntryIs doc v a
           → (ask (containerAt doc a) ≡ answers (high doc a)) × Leads doc (high doc a) × ContainerIs doc v (high doc a)
       container-of-entry v n h =
-          let k = Answers.container-type doc t m a v n h in (
-            Answers.container-answer doc t m a v n h (at .aligned) (at .inside) (Nodes.entry-named doc t a at k .aligned),
-            named c a l o k,
-            Answers.container-named doc t m a v n h,
-          )
+          let (k, s) = Answers.container-named doc t m a v n h in
+          (Answers.container-answer doc t m a v n h (at .aligned) (at .inside) (Nodes.entry-named doc t a at k .aligned), named c a l o k, s)
 
       pub container-of-scalar : (v : Tree) → NoContainer v → EntryIs doc v a → ask (containerAt doc a) ≡ refuses 21 a
       container-of-scalar v n h = Answers.container-wrong doc t m a v n h (at .aligned) (at .inside)

@@ -1,3 +1,4 @@
+pub mod Cases
 pub mod Sound
 pub mod Complete
 pub mod Trees

@@ -8,13 +8,12 @@ use native.Mathlib.Omega.{arith}
 use native.Mathlib.Decide.{ℕ-discrete}
 use lib.Dec.{T, ltb, ltb→lt, nltb→le}
 use Rattle.json.specs.Choose.{choose}
-use Rattle.json.specs.Reading.{Outcome, answer, ask, answers, _>>=_}
+use Rattle.json.specs.Reading.{Outcome, answer, ask, answers}
 use Rattle.json.specs.Texts.{compareTexts, compareNumbers, isEqual}
-use Rattle.json.specs.declared.Order.{Order}
 use Rattle.json.specs.declared.Order.the-variants.{Below, Equal, Above}
 use Rattle.json.specs.Tree.{Tree, obj, Members, end, member, sizem, MemberIs, Lacks}
 use Rattle.json.proofs.Reading.{then}
-use Rattle.json.proofs.Texts.{below≢equal, equal≢above, numbers-below, numbers-equal, numbers-above, texts-equal, texts-above, text-strict, text-cotrans, text-trans}
+use Rattle.json.proofs.Texts.{below≢equal, equal≢above, numbers-below, numbers-equal, numbers-above, texts-equal, texts-same, texts-above, text-strict, text-cotrans, text-trans}
 use Rattle.json.proofs.Tree.{member-at, member-below}
 use Rattle.binary_json_rules.specs.Areas.{word, count, slot, content}
 use Rattle.binary_json_rules.specs.Meaning.{SlotIs, MembersAre, ContainerIs, Means}
@@ -41,12 +40,10 @@ module _ (doc : List ℕ) (t : Tree) (m : Means doc t) where
 
   -- two slots of one text are one slot
   one-slot : (i j : ℕ) → i < count doc → j < count doc → content doc i ≡ content doc j → i ≡ j
-  one-slot i j a b e = go (ltb i j) (ltb j i) (ltb→lt i j) (nltb→le i j) (ltb→lt j i) (nltb→le j i)
-    where
-      go : (l g : Bool) → (T l → i < j) → (T (not l) → j ≤ i) → (T g → j < i) → (T (not g) → i ≤ j) → i ≡ j
-      go true g p q r s = absurd (clash i j (p tt) b e)
-      go false true p q r s = absurd (clash j i (r tt) a (sym e))
-      go false false p q r s = let x = q tt in let y = s tt in omega arith
+  one-slot i j a b e =
+      let p : i < j → ⊥ = λ h. clash i j h b e in
+      let q : j < i → ⊥ = λ h. clash j i h a (sym e) in
+      omega arith
 
   strings-sorted : (x : List ℕ) → Sorted (contentItem doc x) (count doc)
   strings-sorted x = record {
@@ -111,12 +108,10 @@ module _ (doc : List ℕ) (t : Tree) (m : Means doc t) where
         let (l, r, f) = key-slot-of j x v q in
         let o : k ≡ l = one-slot k l (s .counted) (r .counted) (sym e ∙ f) in
         let w : word doc (keyEntryOf c i) ≡ word doc (keyEntryOf c j) = s .place ∙ (ap (slot doc) o ∙ sym (r .place)) in
-        go w (ltb i j) (ltb j i) (ltb→lt i j) (nltb→le i j) (ltb→lt j i) (nltb→le j i)
-      where
-        go : word doc (keyEntryOf c i) ≡ word doc (keyEntryOf c j) → (a b : Bool) → (T a → i < j) → (T (not a) → j ≤ i) → (T b → j < i) → (T (not b) → i ≤ j) → i ≡ j
-        go w true b h1 h2 h3 h4 = let z = keys-rise ms 0 (c + 4) (c + 4 + 4 * n) (is .1) i j (h1 tt) (member-below ms j x v q) in absurd (omega arith)
-        go w false true h1 h2 h3 h4 = let z = keys-rise ms 0 (c + 4) (c + 4 + 4 * n) (is .1) j i (h3 tt) (member-below ms i x u p) in absurd (omega arith)
-        go w false false h1 h2 h3 h4 = let y = h2 tt in let z = h4 tt in omega arith
+        let up = keys-rise ms 0 (c + 4) (c + 4 + 4 * n) (is .1) in
+        let p′ : i < j → ⊥ = λ h. let z = up i j h (member-below ms j x v q) in omega arith in
+        let q′ : j < i → ⊥ = λ h. let z = up j i h (member-below ms i x u p) in omega arith in
+        omega arith
 
     -- what an answer says of the members: the Entry of one with exactly the key, or that none has it
     pub data Right (x : List ℕ) (r : Found) : Type 0 where
@@ -149,11 +144,10 @@ module _ (doc : List ℕ) (t : Tree) (m : Means doc t) where
     -- a miss leaves no equal item
     missed-none : (item : ℕ → Item) (size l : ℕ) → ((i : ℕ) → i < l → item i ≡ compares Below) → ((i : ℕ) → l ≤ i → i < size → item i ≡ compares Above)
         → (i : ℕ) → i < size → item i ≡ compares Equal → ⊥
-    missed-none item size l lows highs i b e = go (ltb i l) (ltb→lt i l) (nltb→le i l)
-      where
-        go : (g : Bool) → (T g → i < l) → (T (not g) → l ≤ i) → ⊥
-        go true p q = below≢equal (compares-inj (sym (lows i (p tt)) ∙ e))
-        go false p q = equal≢above (compares-inj (sym e ∙ highs i (q tt) b))
+    missed-none item size l lows highs i b e =
+        let p : i < l → ⊥ = λ h. below≢equal (compares-inj (sym (lows i h) ∙ e)) in
+        let q : l ≤ i → ⊥ = λ h. equal≢above (compares-inj (sym e ∙ highs i h b)) in
+        omega arith
 
     -- the quick lookup of x answers r, right, with both counts
     pub record Quick (x : List ℕ) (r : Outcome (Unit {0}) Counted) (first second : ℕ) : Type 0 where
@@ -204,9 +198,6 @@ module _ (doc : List ℕ) (t : Tree) (m : Means doc t) where
       first-has : (j : ℕ) (v : Tree) → MemberIs rest j x v → r ≡ answers (entry (entryOf c n (i + j))) → Scanned rest i x r
       none-has : Lacks rest x → r ≡ answers absent → Scanned rest i x r
 
-    equal-yes : (a x : List ℕ) → a ≡ x → isEqual (compareTexts a x) ≡ true
-    equal-yes a x e = rw (texts-equal a x .1 e)
-
     scan-later : (k x : List ℕ) (v : Tree) (rest : Members) (i : ℕ) (r : Outcome (Unit {0}) Found) → (k ≡ x → ⊥) → Scanned rest (i + 1) x r → Scanned (member k v rest) i x r
     scan-later k x v rest i r d (first-has j w y e) = let z : i + 1 + j ≡ i + suc j = omega arith in first-has (suc j) w y (rw z at e)
     scan-later k x v rest i r d (none-has f e) = none-has (λ j w y. go j w y) e
@@ -228,17 +219,9 @@ module _ (doc : List ℕ) (t : Tree) (m : Means doc t) where
         go : (b : Bool) → isEqual (compareTexts k x) ≡ b → Scanned rest (i + 1) x (ask (scanFrom doc c n x (sizem rest) (i + 1))) → Scanned (member k v rest) i x (ask (scanFrom doc c n x (suc (sizem rest)) i))
         go true q r =
             let z : i + 0 ≡ i = omega arith in
-            first-has 0 v (sym (same k x q), refl) (read ∙ rw (q, z))
-          where
-            same : (a b : List ℕ) → isEqual (compareTexts a b) ≡ true → a ≡ b
-            same a b q = texts-equal a b .0 (is-equal (compareTexts a b) q)
-              where
-                is-equal : (o : Order) → isEqual o ≡ true → o ≡ Equal
-                is-equal Below e = absurd (let w : _≡_ {A = ℕ} 0 1 = cc in omega arith)
-                is-equal Equal e = refl
-                is-equal Above e = absurd (let w : _≡_ {A = ℕ} 0 1 = cc in omega arith)
+            first-has 0 v (sym (texts-same k x .0 (rw q tt)), refl) (read ∙ rw (q, z))
         go false q r =
-            let d : k ≡ x → ⊥ = λ g. absurd (let w = sym q ∙ equal-yes k x g in let w2 : _≡_ {A = ℕ} 0 1 = cc in omega arith) in
+            let d : k ≡ x → ⊥ = λ g. rw q at (texts-same k x .1 g) in
             subst (λ (y : Outcome (Unit {0}) Found). Scanned (member k v rest) i x y) (sym (read ∙ rw q)) (scan-later k x v rest i _ d r)
 
     pub scan-right : Aligned c → (x : List ℕ) → (r : Found) × Right x r × (ask (plainScan doc c x) ≡ answers r)

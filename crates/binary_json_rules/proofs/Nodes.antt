@@ -8,7 +8,7 @@ use native.Mathlib.Omega.{arith}
 use Rattle.json.specs.Tree.{Tree, null, bool, num, str, arr, obj, Trees, none, more, Members, end, member, size, sizem, depth, ElementIs, MemberIs, NoContainer, Subtree, whole, element, value}
 use Rattle.json.proofs.Tree.{element-at, member-at}
 use Rattle.binary_json_rules.specs.Areas.{word, low, high, index, kArray, kObject, kScalar, tContainer, typeOf}
-use Rattle.binary_json_rules.specs.Meaning.{Meta, EntryIs, EntriesAre, MembersAre, ContainerIs, Fills, FillsAll, FillsMembers, RootFills, Means}
+use Rattle.binary_json_rules.specs.Meaning.{Meta, EntryIs, EntriesAre, MembersAre, ScalarIs, ContainerIs, Fills, FillsAll, FillsMembers, RootFills, Means}
 use Rattle.binary_json_rules.specs.Leads.{EntryOf, ofArray, ofScalar, ofObject, Leads, root, named}
 use Rattle.binary_json_rules.proofs.Trees.{entry-tree, container-tree}
 
@@ -113,11 +113,11 @@ module _ (doc : List ℕ) where
       rw r (member-is ms j (word doc q) (q + 4) (a + 4) k v (h .5) x)
 
   -- a scalar that stands alone
-  pub scalar-is : (u : Tree) (c : ℕ) → NoContainer u → ContainerIs doc u c → EntryIs doc u (c + 4)
-  scalar-is null c n h = h .1
-  scalar-is (bool b) c n h = h .1
-  scalar-is (num s m) c n h = h .1
-  scalar-is (str s) c n h = h .1
+  pub scalar-is : (u : Tree) (c : ℕ) → NoContainer u → ContainerIs doc u c → ScalarIs doc u c
+  scalar-is null c n h = h
+  scalar-is (bool b) c n h = h
+  scalar-is (num s m) c n h = h
+  scalar-is (str s) c n h = h
   scalar-is (arr ts) c n h = absurd (n tt)
   scalar-is (obj ms) c n h = absurd (n tt)
 

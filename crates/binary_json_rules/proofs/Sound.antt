@@ -15,20 +15,16 @@ use Rattle.json.specs.Number.{binary64, finite, floatTree, negative, magnitude}
 use Rattle.json.specs.Texts.{compareTexts, isBelow}
 use Rattle.json.specs.declared.Order.{Order}
 use Rattle.json.specs.declared.Order.the-variants.{Below, Equal, Above}
-use Rattle.json.specs.Tree.{Tree, null, bool, num, str, arr, obj, Trees, none, more, Members, end, member, size, sizem, depth, depths, depthm}
+use Rattle.json.specs.Tree.{Tree, null, bool, num, str, arr, obj, Trees, none, more, Members, end, member, size, sizem, depth, depths, depthm, IsContainer}
 use Rattle.json.proofs.Reading.{halt≢done, done-answer, step, passed, need-done, assoc}
 use Rattle.binary_json_rules.specs.Areas.{word, low, high, index, count, slot, content, numbers, Kind, kArray, kObject, kScalar, kOther, kindOf, EntryType, tFalse, tTrue, tNull, tString, tNumber, tContainer, tOther, typeOf}
 use Rattle.binary_json_rules.specs.Meaning.{SlotIs, NumberIs, Meta, EntryIs, EntriesAre, MembersAre, ContainerIs, Fills, FillsAll, FillsMembers, RootFills, SlotGood, Means}
 use Rattle.binary_json_rules.specs.Verdict.{header, ascends, slotRules, slots, slotNamed, numberNamed, keyEntries, entryBy, entry, entries, containerBy, container, scalar, rootBy, check}
+use Rattle.binary_json_rules.proofs.Nodes.{BodyFills}
 
 -- the container at o, which is an array or an object, stands for the tree, and its subtree ends at e
 abbrev pub BodyIs : List ℕ → Tree → ℕ → ℕ → Type 0
-BodyIs doc null o e = ⊥
-BodyIs doc (bool b) o e = ⊥
-BodyIs doc (num s m) o e = ⊥
-BodyIs doc (str s) o e = ⊥
-BodyIs doc (arr ts) o e = ContainerIs doc (arr ts) o × FillsAll doc ts (o + 4) (o + 4 + 4 * size ts) e
-BodyIs doc (obj ms) o e = ContainerIs doc (obj ms) o × FillsMembers doc ms (o + 4 + 4 * sizem ms) (o + 4 + 8 * sizem ms) e
+BodyIs doc t o e = IsContainer t × ContainerIs doc t o × BodyFills doc t o e
 
 record FoundBody (doc : List ℕ) (l o e : ℕ) : Type 0 where
   tree : Tree
@@ -84,12 +80,12 @@ module _ {S B : Type 0} (doc : List ℕ) (f : Unit {0} → Reading S B) (s : S) 
 -- ---- Entries, KeyEntries and containers; `child` is any reader that finds what it reads
 
 as-entry : (doc : List ℕ) (t : Tree) (a d e : ℕ) → typeOf (low doc a) ≡ tContainer → high doc a ≡ d → BodyIs doc t d e → EntryIs doc t a × Fills doc t a d e
-as-entry doc null a d e k h b = absurd b
-as-entry doc (bool x) a d e k h b = absurd b
-as-entry doc (num s m) a d e k h b = absurd b
-as-entry doc (str s) a d e k h b = absurd b
-as-entry doc (arr ts) a d e k h b = ((k, rw h (b .0)), (h, b .1))
-as-entry doc (obj ms) a d e k h b = ((k, rw h (b .0)), (h, b .1))
+as-entry doc null a d e k h b = absurd (b .0)
+as-entry doc (bool x) a d e k h b = absurd (b .0)
+as-entry doc (num s m) a d e k h b = absurd (b .0)
+as-entry doc (str s) a d e k h b = absurd (b .0)
+as-entry doc (arr ts) a d e k h b = ((k, rw h (b .1)), (h, b .2))
+as-entry doc (obj ms) a d e k h b = ((k, rw h (b .1)), (h, b .2))
 
 module _ {S : Type 0} (doc : List ℕ) (child : ℕ → Reading S ℕ) (l : ℕ) (ih : (o : ℕ) (s : S) (e : ℕ) (z : S) → child o s ≡ done e z → FoundBody doc l o e) where
   entry-by : (a d : ℕ) (s : S) {e : ℕ} {z : S} (k : EntryType) → typeOf (low doc a) ≡ k → entryBy doc child a d k s ≡ done e z → FoundEntry doc l a d e
@@ -148,14 +144,14 @@ module _ {S : Type 0} (doc : List ℕ) (child : ℕ → Reading S ℕ) (l : ℕ)
       let fits : o + 4 + 4 * n ≤ index doc = leb→le _ _ (p .test) in
       let ts = entries-sound n _ _ s (p .rest) in
       let shallow : suc (depths (ts .trees)) ≤ suc l = omega (arith, ts .shallow) in
-      record { tree = arr (ts .trees); is = rw (ts .many) ((record { kind-is = hk; size-is = hn; inside = fits }, ts .are), ts .fills); shallow = shallow }
+      record { tree = arr (ts .trees); is = rw (ts .many) (tt, (record { kind-is = hk; size-is = hn; inside = fits }, ts .are), ts .fills); shallow = shallow }
   body-sound o n s kObject hk hn h =
       let p = passed _ _ _ _ s h in
       let fits : o + 4 + 4 * (2 * n) ≤ index doc = leb→le _ _ (p .test) in
       let p2 = step _ _ s (p .rest) in
       let ms = members-sound n 0 _ _ _ s (p2 .mid) (p2 .first) (p2 .rest) in
       let shallow : suc (depthm (ms .members)) ≤ suc l = omega (arith, ms .shallow) in
-      record { tree = obj (ms .members); is = rw (ms .many) ((record { kind-is = hk; size-is = hn; inside = fits }, ms .are), ms .fills); shallow = shallow }
+      record { tree = obj (ms .members); is = rw (ms .many) (tt, (record { kind-is = hk; size-is = hn; inside = fits }, ms .are), ms .fills); shallow = shallow }
   body-sound o n s kScalar hk hn h = absurd (halt≢done h)
   body-sound o n s kOther hk hn h = absurd (halt≢done h)
 
@@ -167,12 +163,12 @@ record FoundRoot (doc : List ℕ) (e : ℕ) : Type 0 where
 
 module _ (doc : List ℕ) where
   root-body : (t : Tree) (e : ℕ) → BodyIs doc t 4 e → ContainerIs doc t 4 × RootFills doc t e
-  root-body null e h = absurd h
-  root-body (bool b) e h = absurd h
-  root-body (num s m) e h = absurd h
-  root-body (str s) e h = absurd h
-  root-body (arr ts) e h = h
-  root-body (obj ms) e h = h
+  root-body null e h = absurd (h .0)
+  root-body (bool b) e h = absurd (h .0)
+  root-body (num s m) e h = absurd (h .0)
+  root-body (str s) e h = absurd (h .0)
+  root-body (arr ts) e h = (h .1, h .2)
+  root-body (obj ms) e h = (h .1, h .2)
 
   root-scalar : (t : Tree) (e : ℕ) → depth t ≤ 0 → Meta doc 4 kScalar 1 1 → EntryIs doc t 8 → Fills doc t 8 12 e → ContainerIs doc t 4 × RootFills doc t e
   root-scalar null e d m h f = ((m, h), f)

@@ -57,15 +57,6 @@ quickLookup doc c x = do
   n ← object doc c
   afterStrings doc c n (strings doc x)
 
--- both counts; a refusal has 0 and 0
-abbrev pub firstCount : Asked Counted → ℕ
-firstCount (halt number place u) = 0
-firstCount (done a u) = a .first
-
-abbrev pub secondCount : Asked Counted → ℕ
-secondCount (halt number place u) = 0
-secondCount (done a u) = a .second
-
 -- ---- what both counts are in a document whose slots can all be read
 
 -- the halving of the C contents for the key x

@@ -85,7 +85,10 @@ module _ (line : List ℕ) where
     unfolding answerOf choose
     answered e a w = let n : bytesOf line ≡ some (take (length line / 2) out) = rw e at d in rw (le-ltb 32_768 (length line) h, n, w)
 
-pub frame-counted : (n : ℕ) (xs : List ℕ) → n ≤ length xs → n ≡ length (take n xs)
-frame-counted n xs h = sym (length-take-le n xs h)
+-- a part of a text has the length that it was asked for
+pub counted : (n : ℕ) (xs : List ℕ) → n ≤ length xs → n ≡ length (take n xs)
+counted n xs h = sym (length-take-le n xs h)
 
-pub ruleset frame-laws = (with-room, frame-counted, as-fractured, as-binary, too-long, not-hex, answered, needs)
+pub ruleset part-laws = (counted, needs)
+
+pub ruleset frame-laws = (with-room, counted, as-fractured, as-binary, too-long, not-hex, answered, needs)

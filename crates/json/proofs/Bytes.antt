@@ -1,10 +1,10 @@
--- Numbers out of bytes are as small as their byte count says, and the two fields of a word make it up, for every width.
+-- Numbers out of bytes are as small as their byte count says.
 use Prim.Native.Nat.{ℕ, zero, suc, _+_, _*_, _^_, _<_}
 use mathlib.Core.List.{List}
 use mathlib.Core.Path.{_≡_}
-use native.Mathlib.Nat.{pow-succ', div-add-mod'}
+use native.Mathlib.Nat.{pow-succ'}
 use native.Mathlib.Omega.{arith}
-use Rattle.json.specs.Bytes.{Bytes, number, lowField, highField}
+use Rattle.json.specs.Bytes.{Bytes, number}
 
 pub number-small : (doc : List ℕ) → Bytes doc → (o n : ℕ) → number doc o n < 256 ^ n
 unfolding number
@@ -14,6 +14,3 @@ number-small doc b o (suc n) =
     let r = number-small doc b (o + 1) n in
     let e : 256 ^ suc n ≡ 256 * 256 ^ n = pow-succ' 256 n in
     omega arith
-
-pub fields-join : (k w : ℕ) → highField k w * 2 ^ k + lowField k w ≡ w
-fields-join k w = div-add-mod' w (2 ^ k)

@@ -1,9 +1,9 @@
 -- The laws of reading that may be refused: what a chain of readings says of its steps, and how it is put together.
 use mathlib.Core.Path.{_≡_, refl}
 use mathlib.Core.Bool.{Bool, true, false}
-use Prim.Native.Nat.{ℕ}
+use Prim.Native.Nat.{ℕ, _≤_, _<_}
 use native.Mathlib.Omega.{arith}
-use lib.Dec.{T}
+use lib.Dec.{T, leb, ltb, eqb, leb→le, ltb→lt, eqb→eq, eqb-refl}
 use Rattle.json.specs.Reading.{Outcome, halt, done, Reading, follow, _>>=_, need}
 
 pub halt≢done : {S A : Type 0} {n p : ℕ} {s z : S} {a : A} → halt n p s ≡ done a z → ⊥
@@ -14,6 +14,20 @@ done-answer e = cc
 
 pub done-kept : {S A : Type 0} {a b : A} {s z : S} → done a s ≡ done b z → s ≡ z
 done-kept e = cc
+
+-- ---- tests that pass, and tests that fail
+
+pub eq→eqb : {m n : ℕ} → m ≡ n → T (eqb m n)
+eq→eqb {m} {n} e = rw e (eqb-refl n)
+
+pub over : {m n : ℕ} → n < m → T (leb m n) → ⊥
+over {m} {n} h t = let l = leb→le m n t in omega arith
+
+pub past : {m n : ℕ} → n ≤ m → T (ltb m n) → ⊥
+past {m} {n} h t = let l = ltb→lt m n t in omega arith
+
+pub unlike : {m n : ℕ} → (m ≡ n → ⊥) → T (eqb m n) → ⊥
+unlike {m} {n} h t = h (eqb→eq m n t)
 
 -- ---- a chain that is done: so is its first step, and so is the rest
 
@@ -56,16 +70,6 @@ pub stops : {S A B : Type 0} (m : Reading S A) (f : A → Reading S B) (s : S) {
 unfolding _>>=_ follow
 stops m f s h = rw h
 
-pub pass : {S B : Type 0} (t : Bool) (n p : ℕ) (f : Unit {0} → Reading S B) (s : S) → T t → (need t n p >>= f) s ≡ f tt s
-unfolding _>>=_ follow need
-pass true n p f s h = refl
-pass false n p f s h = absurd h
-
-pub fail : {S B : Type 0} (t : Bool) (n p : ℕ) (f : Unit {0} → Reading S B) (s : S) → (T t → ⊥) → (need t n p >>= f) s ≡ halt n p s
-unfolding _>>=_ follow need
-fail true n p f s h = absurd (h tt)
-fail false n p f s h = refl
-
 pub need-yes : {S : Type 0} (t : Bool) (n p : ℕ) (s : S) → T t → need t n p s ≡ done tt s
 unfolding need
 need-yes true n p s h = refl
@@ -75,6 +79,12 @@ pub need-no : {S : Type 0} (t : Bool) (n p : ℕ) (s : S) → (T t → ⊥) → 
 unfolding need
 need-no true n p s h = absurd (h tt)
 need-no false n p s h = refl
+
+pub pass : {S B : Type 0} (t : Bool) (n p : ℕ) (f : Unit {0} → Reading S B) (s : S) → T t → (need t n p >>= f) s ≡ f tt s
+pass t n p f s h = then (need t n p) f s (need-yes t n p s h)
+
+pub fail : {S B : Type 0} (t : Bool) (n p : ℕ) (f : Unit {0} → Reading S B) (s : S) → (T t → ⊥) → (need t n p >>= f) s ≡ halt n p s
+fail t n p f s h = stops (need t n p) f s (need-no t n p s h)
 
 -- a chain of chains is one chain
 assoc-by : {S A B C : Type 0} (f : A → Reading S B) (g : B → Reading S C) (o : Outcome S A) → follow (follow o f) g ≡ follow o (λ a. f a >>= g)

@@ -1,25 +1,15 @@
 -- Facts about trees: what stands at a place of an array or an object, and how deep a subtree is.
-use mathlib.Core.Path.{_≡_, refl, sym, _∙_}
+use mathlib.Core.Path.{refl}
 use mathlib.Core.List.{List}
 use Prim.Native.Nat.{ℕ, zero, suc, _≤_, _<_}
 use native.Mathlib.Omega.{arith}
 use Rattle.json.specs.Tree.{Tree, Trees, none, more, Members, end, member, size, sizem, depth, depths, depthm, ElementIs, MemberIs, Subtree, whole, element, value}
 
--- element i and member j are there exactly below the size, and are one
+-- element i and member j are there exactly below the size
 pub element-at : (ts : Trees) (i : ℕ) → i < size ts → (v : Tree) × ElementIs ts i v
 element-at none i h = absurd (omega arith)
 element-at (more t ts) zero h = (t, refl)
 element-at (more t ts) (suc i) h = element-at ts i (omega arith)
-
-pub element-below : (ts : Trees) (i : ℕ) (v : Tree) → ElementIs ts i v → i < size ts
-element-below none i v h = absurd h
-element-below (more t ts) zero v h = omega arith
-element-below (more t ts) (suc i) v h = let r = element-below ts i v h in omega arith
-
-pub element-one : (ts : Trees) (i : ℕ) {u v : Tree} → ElementIs ts i u → ElementIs ts i v → u ≡ v
-element-one none i p q = absurd p
-element-one (more t ts) zero p q = p ∙ sym q
-element-one (more t ts) (suc i) p q = element-one ts i p q
 
 pub member-at : (ms : Members) (j : ℕ) → j < sizem ms → (k : List ℕ) × (v : Tree) × MemberIs ms j k v
 member-at end j h = absurd (omega arith)

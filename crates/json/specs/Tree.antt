@@ -1,11 +1,10 @@
 -- The tree that a document of either format means: document 01, end of section "FJ, laid out". An array's values and an
 -- object's members stand in document order; a text is its bytes.
 use Prim.Native.Nat.{ℕ, zero, suc, _+_, max}
-use mathlib.Core.Bool.{Bool, Bool-discrete}
-use mathlib.Core.List.{List, List-discrete}
+use mathlib.Core.Bool.{Bool}
+use mathlib.Core.List.{List}
 use mathlib.Core.Logic.{_≢_}
 use mathlib.Core.Path.{_≡_}
-use native.Mathlib.Decide.{ℕ-discrete}
 
 -- A number is the whole number that 2 ^ 1074 times it makes, as a sign (true is minus) and a magnitude. So zero has two
 -- signs, and every other number one spelling.
@@ -17,7 +16,6 @@ mutual
     str : List ℕ → Tree
     arr : Trees → Tree
     obj : Members → Tree
-    deriving Discrete as Tree-discrete
 
   pub data Trees : Type 0 where
     none : Trees
@@ -26,10 +24,6 @@ mutual
   pub data Members : Type 0 where
     end : Members
     member : (key : List ℕ) → Tree → Members → Members
-
--- whether two trees are equal is decidable
-pub sameTree : Discrete Tree
-sameTree = Tree-discrete Bool-discrete ℕ-discrete (List-discrete ℕ-discrete)
 
 -- how many values an array, and members an object has
 abbrev pub size : Trees → ℕ

@@ -2,39 +2,28 @@ use Rattle.binary_json_check.proofs.Checks.{tree-laws}
 use borrow.Author.Needs.{needs}
 use Rattle.binary_json_check.proofs.check_tree.Statement.{statement}
 use Rattle.binary_json_check.proofs.check_tree.Tie as tie
-use Rattle.binary_json_check.proofs.check_tree.Reads as reads
-use Rattle.binary_json_check.proofs.check_tree.Lts as lts
-use Rattle.binary_json_check.proofs.walk.walk_root.Reads as walk-root-reads
 
--- src/lib.rt:23:17
 sub-step : tie.Need-sub-step
 sub-step c = search needs
 
--- src/lib.rt:25:9
 returns : tie.Need-returns
 returns c = search tree-laws
 
--- src/lib.rt:27:9
 walk-root-requires : tie.Need-walk-root-requires
 walk-root-requires c κs = search needs
 
--- src/lib.rt:29:23
 enum-known-w : tie.Need-enum-known-w
 enum-known-w c = search needs
 
--- src/lib.rt:30:19
 enum-known-w-2 : tie.Need-enum-known-w-2
 enum-known-w-2 c = search needs
 
--- src/lib.rt:32:17
 returns-2 : tie.Need-returns-2
 returns-2 c = search tree-laws
 
--- src/lib.rt:18:1
 returns-3 : tie.Need-returns-3
 returns-3 c = search tree-laws
 
--- src/lib.rt:18:1
 returns-4 : tie.Need-returns-4
 returns-4 c = search tree-laws
 

@@ -2,42 +2,31 @@ use Rattle.binary_json_entries.proofs.Entries.{part-laws}
 use borrow.Author.Needs.{needs}
 use Rattle.binary_json_entries.proofs.part_of.Statement.{statement}
 use Rattle.binary_json_entries.proofs.part_of.Tie as tie
-use Rattle.binary_json_entries.proofs.part_of.Reads as reads
-use Rattle.binary_json_entries.proofs.part_of.Lts as lts
 
--- src/questions.rt:270:20
 enum-known-s : tie.Need-enum-known-s
 enum-known-s c = search needs
 
--- src/questions.rt:270:48
 add-result : tie.Need-add-result
 add-result c = search part-laws
 
--- src/questions.rt:270:36
 sub-result : tie.Need-sub-result
 sub-result c = search needs
 
--- src/questions.rt:270:36
 part-result-start : tie.Need-part-result-start
 part-result-start c = search needs
 
--- src/questions.rt:270:36
 part-result-end : tie.Need-part-result-end
 part-result-end c = search part-laws
 
--- src/questions.rt:271:29
 enum-told : tie.Need-enum-told
 enum-told c = search needs
 
--- src/questions.rt:271:29
 slice-aggregate-result : tie.Need-slice-aggregate-result
 slice-aggregate-result c = search needs
 
--- src/questions.rt:265:1
 returns : tie.Need-returns
 returns c = search part-laws
 
--- src/questions.rt:265:1
 returns-2 : tie.Need-returns-2
 returns-2 c = search needs
 

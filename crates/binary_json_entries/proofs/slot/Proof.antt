@@ -2,44 +2,31 @@ use Rattle.binary_json_entries.proofs.Entries.{slot-laws}
 use borrow.Author.Needs.{needs}
 use Rattle.binary_json_entries.proofs.slot.Statement.{statement}
 use Rattle.binary_json_entries.proofs.slot.Tie as tie
-use Rattle.binary_json_entries.proofs.slot.Reads as reads
-use Rattle.binary_json_entries.proofs.slot.Lts as lts
-use Rattle.binary_json_areas.proofs.asking.open.Reads as open-reads
-use Rattle.binary_json_areas.proofs.named.text_named.Reads as text-named-reads
 
--- src/questions.rt:282:9
 open-requires : tie.Need-open-requires
 open-requires c κs = search needs
 
--- src/questions.rt:284:25
 enum-known-o : tie.Need-enum-known-o
 enum-known-o c = search needs
 
--- src/questions.rt:285:20
 enum-known-o-2 : tie.Need-enum-known-o-2
 enum-known-o-2 c = search needs
 
--- src/questions.rt:286:17
 text-named-requires : tie.Need-text-named-requires
 text-named-requires c κs = search slot-laws
 
--- src/questions.rt:288:30
 enum-known-t : tie.Need-enum-known-t
 enum-known-t c = search needs
 
--- src/questions.rt:289:46
 enum-told : tie.Need-enum-told
 enum-told c = search needs
 
--- src/questions.rt:278:1
 returns : tie.Need-returns
 returns c = search slot-laws
 
--- src/questions.rt:278:1
 returns-2 : tie.Need-returns-2
 returns-2 c = search slot-laws
 
--- src/questions.rt:278:1
 returns-3 : tie.Need-returns-3
 returns-3 c = search slot-laws
 

@@ -2,39 +2,28 @@ use Rattle.binary_json_entries.proofs.Entries.{type-laws}
 use borrow.Author.Needs.{needs}
 use Rattle.binary_json_entries.proofs.type_at.Statement.{statement}
 use Rattle.binary_json_entries.proofs.type_at.Tie as tie
-use Rattle.binary_json_entries.proofs.type_at.Reads as reads
-use Rattle.binary_json_entries.proofs.type_at.Lts as lts
-use Rattle.binary_json_areas.proofs.areas.fields_at.Reads as fields-at-reads
 
--- src/questions.rt:155:9
 fields-at-requires : tie.Need-fields-at-requires
 fields-at-requires c κs = search needs
 
--- src/questions.rt:158:9
 returns : tie.Need-returns
 returns c = search type-laws
 
--- src/questions.rt:161:9
 returns-2 : tie.Need-returns-2
 returns-2 c = search type-laws
 
--- src/questions.rt:164:9
 returns-3 : tie.Need-returns-3
 returns-3 c = search type-laws
 
--- src/questions.rt:167:9
 returns-4 : tie.Need-returns-4
 returns-4 c = search type-laws
 
--- src/questions.rt:170:9
 returns-5 : tie.Need-returns-5
 returns-5 c = search type-laws
 
--- src/questions.rt:173:9
 returns-6 : tie.Need-returns-6
 returns-6 c = search type-laws
 
--- src/questions.rt:151:1
 returns-7 : tie.Need-returns-7
 returns-7 c = search type-laws
 

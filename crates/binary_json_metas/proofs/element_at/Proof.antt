@@ -2,55 +2,40 @@ use Rattle.binary_json_metas.proofs.Metas.{element-laws}
 use borrow.Author.Needs.{needs}
 use Rattle.binary_json_metas.proofs.element_at.Statement.{statement}
 use Rattle.binary_json_metas.proofs.element_at.Tie as tie
-use Rattle.binary_json_metas.proofs.element_at.Reads as reads
-use Rattle.binary_json_metas.proofs.element_at.Lts as lts
-use Rattle.binary_json_areas.proofs.areas.fields_at.Reads as fields-at-reads
 
--- src/questions.rt:66:9
 fields-at-requires : tie.Need-fields-at-requires
 fields-at-requires c κs = search needs
 
--- src/questions.rt:70:9
 returns : tie.Need-returns
 returns c = search element-laws
 
--- src/questions.rt:73:9
 returns-2 : tie.Need-returns-2
 returns-2 c = search element-laws
 
--- src/questions.rt:75:18
 add-if3 : tie.Need-add-if3
 add-if3 c = search needs
 
--- src/questions.rt:75:26
 mul-if3 : tie.Need-mul-if3
 mul-if3 c = search needs
 
--- src/questions.rt:75:18
 add-if3-2 : tie.Need-add-if3-2
 add-if3-2 c = search needs
 
--- src/questions.rt:76:9
 returns-3 : tie.Need-returns-3
 returns-3 c = search element-laws
 
--- src/questions.rt:79:9
 returns-4 : tie.Need-returns-4
 returns-4 c = search element-laws
 
--- src/questions.rt:81:27
 add-t11 : tie.Need-add-t11
 add-t11 c = search needs
 
--- src/questions.rt:81:35
 mul-t12 : tie.Need-mul-t12
 mul-t12 c = search needs
 
--- src/questions.rt:81:27
 add-t13 : tie.Need-add-t13
 add-t13 c = search needs
 
--- src/questions.rt:62:1
 returns-5 : tie.Need-returns-5
 returns-5 c = search element-laws
 

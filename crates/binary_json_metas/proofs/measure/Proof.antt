@@ -2,63 +2,46 @@ use Rattle.binary_json_metas.proofs.Metas.{kind-laws}
 use borrow.Author.Needs.{needs}
 use Rattle.binary_json_metas.proofs.measure.Statement.{statement}
 use Rattle.binary_json_metas.proofs.measure.Tie as tie
-use Rattle.binary_json_metas.proofs.measure.Reads as reads
-use Rattle.binary_json_metas.proofs.measure.Lts as lts
-use Rattle.binary_json_areas.proofs.areas.fields_at.Reads as fields-at-reads
 
--- src/questions.rt:29:9
 fields-at-requires : tie.Need-fields-at-requires
 fields-at-requires c κs = search needs
 
--- src/questions.rt:33:22
 add-if2 : tie.Need-add-if2
 add-if2 c = search needs
 
--- src/questions.rt:33:35
 mul-if2 : tie.Need-mul-if2
 mul-if2 c = search needs
 
--- src/questions.rt:33:30
 mul-if2-2 : tie.Need-mul-if2-2
 mul-if2-2 c = search needs
 
--- src/questions.rt:33:22
 add-if2-2 : tie.Need-add-if2-2
 add-if2-2 c = search needs
 
--- src/questions.rt:34:13
 returns : tie.Need-returns
 returns c = search kind-laws
 
--- src/questions.rt:36:9
 returns-2 : tie.Need-returns-2
 returns-2 c = search kind-laws
 
--- src/questions.rt:39:9
 returns-3 : tie.Need-returns-3
 returns-3 c = search kind-laws
 
--- src/questions.rt:41:18
 add-if4 : tie.Need-add-if4
 add-if4 c = search needs
 
--- src/questions.rt:41:26
 mul-if4 : tie.Need-mul-if4
 mul-if4 c = search needs
 
--- src/questions.rt:41:18
 add-if4-2 : tie.Need-add-if4-2
 add-if4-2 c = search needs
 
--- src/questions.rt:42:9
 returns-4 : tie.Need-returns-4
 returns-4 c = search kind-laws
 
--- src/questions.rt:45:9
 returns-5 : tie.Need-returns-5
 returns-5 c = search kind-laws
 
--- src/questions.rt:25:1
 returns-6 : tie.Need-returns-6
 returns-6 c = search kind-laws
 

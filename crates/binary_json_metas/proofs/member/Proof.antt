@@ -2,77 +2,55 @@ use Rattle.binary_json_metas.proofs.Metas.{member-laws}
 use borrow.Author.Needs.{needs}
 use Rattle.binary_json_metas.proofs.member.Statement.{statement}
 use Rattle.binary_json_metas.proofs.member.Tie as tie
-use Rattle.binary_json_metas.proofs.member.Reads as reads
-use Rattle.binary_json_metas.proofs.member.Lts as lts
-use Rattle.binary_json_areas.proofs.areas.word_at.Reads as word-at-reads
-use Rattle.binary_json_areas.proofs.named.slot_named.Reads as slot-named-reads
-use Rattle.binary_json_metas.proofs.object_at.Reads as object-at-reads
 
--- src/questions.rt:129:9
 object-at-requires : tie.Need-object-at-requires
 object-at-requires c κs = search needs
 
--- src/questions.rt:131:25
 enum-known-o : tie.Need-enum-known-o
 enum-known-o c = search needs
 
--- src/questions.rt:132:20
 enum-known-o-2 : tie.Need-enum-known-o-2
 enum-known-o-2 c = search needs
 
--- src/questions.rt:134:17
 returns : tie.Need-returns
 returns c = search member-laws
 
--- src/questions.rt:136:48
 add-word-at : tie.Need-add-word-at
 add-word-at c = search member-laws
 
--- src/questions.rt:136:56
 mul-word-at : tie.Need-mul-word-at
 mul-word-at c = search member-laws
 
--- src/questions.rt:136:48
 add-word-at-2 : tie.Need-add-word-at-2
 add-word-at-2 c = search member-laws
 
--- src/questions.rt:136:17
 word-at-requires : tie.Need-word-at-requires
 word-at-requires c κs = search member-laws
 
--- src/questions.rt:137:17
 slot-named-requires : tie.Need-slot-named-requires
 slot-named-requires c κs = search member-laws
 
--- src/questions.rt:141:39
 add-t19 : tie.Need-add-t19
 add-t19 c = search member-laws
 
--- src/questions.rt:141:47
 mul-t20 : tie.Need-mul-t20
 mul-t20 c = search member-laws
 
--- src/questions.rt:141:39
 add-t21 : tie.Need-add-t21
 add-t21 c = search member-laws
 
--- src/questions.rt:141:55
 mul-t22 : tie.Need-mul-t22
 mul-t22 c = search member-laws
 
--- src/questions.rt:141:39
 add-t23 : tie.Need-add-t23
 add-t23 c = search member-laws
 
--- src/questions.rt:139:17
 returns-2 : tie.Need-returns-2
 returns-2 c = search member-laws
 
--- src/questions.rt:125:1
 returns-3 : tie.Need-returns-3
 returns-3 c = search member-laws
 
--- src/questions.rt:125:1
 returns-4 : tie.Need-returns-4
 returns-4 c = search member-laws
 

@@ -1,10 +1,6 @@
 use Rattle.frame.proofs.Frames.{frame-laws}
 use Rattle.frame.proofs.answer_to.Statement.{statement}
 use Rattle.frame.proofs.answer_to.Tie as tie
-use Rattle.frame.proofs.answer_to.Reads as reads
-use Rattle.frame.proofs.answer_to.Lts as lts
-use Rattle.frame.proofs.check_frame.Reads as check-frame-reads
-use Rattle.frame.proofs.hex.decode.Reads as decode-reads
 
 returns : tie.Need-returns
 returns c = search frame-laws

@@ -1,10 +1,6 @@
 use Rattle.frame.proofs.Frames.{frame-laws}
 use Rattle.frame.proofs.check_fractured.Statement.{statement}
 use Rattle.frame.proofs.check_fractured.Tie as tie
-use Rattle.frame.proofs.check_fractured.Reads as reads
-use Rattle.frame.proofs.check_fractured.Lts as lts
-use Rattle.fractured_json_check.proofs.check.Reads as check-reads
-use Rattle.frame.proofs.key_table.Reads as key-table-reads
 
 key-table-requires : tie.Need-key-table-requires
 key-table-requires c κs = search frame-laws

@@ -1,11 +1,6 @@
 use Rattle.frame.proofs.Frames.{frame-laws}
 use Rattle.frame.proofs.check_frame.Statement.{statement}
 use Rattle.frame.proofs.check_frame.Tie as tie
-use Rattle.frame.proofs.check_frame.Reads as reads
-use Rattle.frame.proofs.check_frame.Lts as lts
-use Rattle.binary_json_check.proofs.check.Reads as check-reads
-use Rattle.frame.proofs.check_fractured.Reads as check-fractured-reads
-use Rattle.frame.proofs.is_fractured.Reads as is-fractured-reads
 
 is-fractured-requires : tie.Need-is-fractured-requires
 is-fractured-requires c κs = search frame-laws

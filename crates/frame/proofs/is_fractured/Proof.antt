@@ -1,8 +1,6 @@
 use Rattle.frame.proofs.Frames.{format-laws}
 use Rattle.frame.proofs.is_fractured.Statement.{statement}
 use Rattle.frame.proofs.is_fractured.Tie as tie
-use Rattle.frame.proofs.is_fractured.Reads as reads
-use Rattle.frame.proofs.is_fractured.Lts as lts
 
 returns : tie.Need-returns
 returns c = search format-laws

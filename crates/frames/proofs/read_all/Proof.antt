@@ -1,11 +1,8 @@
-use Rattle.frames.proofs.Parts.{part-laws}
+use Rattle.frame.proofs.Frames.{part-laws}
 use mathlib.Core.Path.{_≡_}
 use lib.ListN.{length}
 use Rattle.frames.proofs.read_all.Statement.{statement}
 use Rattle.frames.proofs.read_all.Tie as tie
-use Rattle.frames.proofs.read_all.Reads as reads
-use Rattle.frames.proofs.read_all.Lts as lts
-use Rattle.frames.proofs.read_once.Reads as read-once-reads
 
 abbrev Inv-loop : tie.InvT-loop
 Inv-loop block₀ line₀ out₀ next₀ more₀ turns₀ block line out next more turns = (length block ≡ length block₀) × (length line ≡ length line₀) × (length out ≡ length out₀)

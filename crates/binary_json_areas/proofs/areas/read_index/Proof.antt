@@ -2,43 +2,31 @@ use Rattle.binary_json_areas.proofs.Headers.{index-laws}
 use borrow.Author.Needs.{needs}
 use Rattle.binary_json_areas.proofs.areas.read_index.Statement.{statement}
 use Rattle.binary_json_areas.proofs.areas.read_index.Tie as tie
-use Rattle.binary_json_areas.proofs.areas.read_index.Reads as reads
-use Rattle.binary_json_areas.proofs.areas.read_index.Lts as lts
-use Rattle.binary_json_areas.proofs.areas.fields_at.Reads as fields-at-reads
 
--- src/areas.rt:38:9
 returns : tie.Need-returns
 returns c = search index-laws
 
--- src/areas.rt:41:9
 returns-2 : tie.Need-returns-2
 returns-2 c = search index-laws
 
--- src/areas.rt:43:9
 fields-at-requires : tie.Need-fields-at-requires
 fields-at-requires c κs = search needs
 
--- src/areas.rt:47:9
 returns-3 : tie.Need-returns-3
 returns-3 c = search index-laws
 
--- src/areas.rt:50:9
 returns-4 : tie.Need-returns-4
 returns-4 c = search index-laws
 
--- src/areas.rt:54:9
 returns-5 : tie.Need-returns-5
 returns-5 c = search index-laws
 
--- src/areas.rt:56:14
 add-if6 : tie.Need-add-if6
 add-if6 c = search needs
 
--- src/areas.rt:57:9
 returns-6 : tie.Need-returns-6
 returns-6 c = search index-laws
 
--- src/areas.rt:33:1
 returns-7 : tie.Need-returns-7
 returns-7 c = search index-laws
 

@@ -2,52 +2,37 @@ use Rattle.binary_json_areas.proofs.Openings.{open-laws}
 use borrow.Author.Needs.{needs}
 use Rattle.binary_json_areas.proofs.asking.open.Statement.{statement}
 use Rattle.binary_json_areas.proofs.asking.open.Tie as tie
-use Rattle.binary_json_areas.proofs.asking.open.Reads as reads
-use Rattle.binary_json_areas.proofs.asking.open.Lts as lts
-use Rattle.binary_json_areas.proofs.areas.read_header.Reads as read-header-reads
-use Rattle.binary_json_areas.proofs.asking.texts_end.Reads as texts-end-reads
 
--- src/asking.rt:32:9
 read-header-requires : tie.Need-read-header-requires
 read-header-requires c κs = search needs
 
--- src/asking.rt:34:25
 enum-known-h : tie.Need-enum-known-h
 enum-known-h c = search needs
 
--- src/asking.rt:35:22
 enum-known-h-2 : tie.Need-enum-known-h-2
 enum-known-h-2 c = search needs
 
--- src/asking.rt:36:17
 texts-end-requires : tie.Need-texts-end-requires
 texts-end-requires c κs = search open-laws
 
--- src/asking.rt:37:26
 add-if1 : tie.Need-add-if1
 add-if1 c = search open-laws
 
--- src/asking.rt:37:38
 mul-if1 : tie.Need-mul-if1
 mul-if1 c = search open-laws
 
--- src/asking.rt:37:26
 add-if1-2 : tie.Need-add-if1-2
 add-if1-2 c = search open-laws
 
--- src/asking.rt:38:17
 returns : tie.Need-returns
 returns c = search open-laws
 
--- src/asking.rt:41:17
 returns-2 : tie.Need-returns-2
 returns-2 c = search open-laws
 
--- src/asking.rt:29:1
 returns-3 : tie.Need-returns-3
 returns-3 c = search open-laws
 
--- src/asking.rt:29:1
 returns-4 : tie.Need-returns-4
 returns-4 c = search open-laws
 

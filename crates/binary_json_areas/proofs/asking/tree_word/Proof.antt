@@ -1,26 +1,19 @@
 use Rattle.binary_json_areas.proofs.Openings.{word-laws}
 use Rattle.binary_json_areas.proofs.asking.tree_word.Statement.{statement}
 use Rattle.binary_json_areas.proofs.asking.tree_word.Tie as tie
-use Rattle.binary_json_areas.proofs.asking.tree_word.Reads as reads
-use Rattle.binary_json_areas.proofs.asking.tree_word.Lts as lts
 
--- src/asking.rt:54:9
 returns : tie.Need-returns
 returns c = search word-laws
 
--- src/asking.rt:58:9
 returns-2 : tie.Need-returns-2
 returns-2 c = search word-laws
 
--- src/asking.rt:61:9
 returns-3 : tie.Need-returns-3
 returns-3 c = search word-laws
 
--- src/asking.rt:64:9
 returns-4 : tie.Need-returns-4
 returns-4 c = search word-laws
 
--- src/asking.rt:49:1
 returns-5 : tie.Need-returns-5
 returns-5 c = search word-laws
 

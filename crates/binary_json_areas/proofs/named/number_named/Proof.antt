@@ -2,51 +2,37 @@ use Rattle.binary_json_areas.proofs.Naming.{number-named-laws}
 use borrow.Author.Needs.{needs}
 use Rattle.binary_json_areas.proofs.named.number_named.Statement.{statement}
 use Rattle.binary_json_areas.proofs.named.number_named.Tie as tie
-use Rattle.binary_json_areas.proofs.named.number_named.Reads as reads
-use Rattle.binary_json_areas.proofs.named.number_named.Lts as lts
-use Rattle.word.proofs.eight.Reads as eight-reads
 
--- src/named.rt:43:9
 returns : tie.Need-returns
 returns c = search number-named-laws
 
--- src/named.rt:47:9
 returns-2 : tie.Need-returns-2
 returns-2 c = search number-named-laws
 
--- src/named.rt:50:9
 returns-3 : tie.Need-returns-3
 returns-3 c = search number-named-laws
 
--- src/named.rt:52:8
 sub-if4 : tie.Need-sub-if4
 sub-if4 c = search needs
 
--- src/named.rt:53:9
 returns-4 : tie.Need-returns-4
 returns-4 c = search number-named-laws
 
--- src/named.rt:55:28
 sub-eight : tie.Need-sub-eight
 sub-eight c = search needs
 
--- src/named.rt:55:28
 part-eight-start : tie.Need-part-eight-start
 part-eight-start c = search needs
 
--- src/named.rt:55:28
 part-eight-end : tie.Need-part-eight-end
 part-eight-end c = search needs
 
--- src/named.rt:55:9
 eight-requires : tie.Need-eight-requires
 eight-requires c κs = search needs
 
--- src/named.rt:58:9
 returns-5 : tie.Need-returns-5
 returns-5 c = search number-named-laws
 
--- src/named.rt:36:1
 returns-6 : tie.Need-returns-6
 returns-6 c = search number-named-laws
 

@@ -2,9 +2,6 @@ use Prim.Native.Nat.{_-_}
 use Rattle.binary_json_check.proofs.Slots.{Slotted, read-slots-laws}
 use Rattle.binary_json_check.proofs.strings.read_slots.Statement.{statement}
 use Rattle.binary_json_check.proofs.strings.read_slots.Tie as tie
-use Rattle.binary_json_check.proofs.strings.read_slots.Reads as reads
-use Rattle.binary_json_check.proofs.strings.read_slots.Lts as lts
-use Rattle.binary_json_check.proofs.strings.read_slot.Reads as read-slot-reads
 
 abbrev Inv-loop : tie.InvT-loop
 Inv-loop doc index count k₀ start₀ before₀ k start before = Slotted doc count k before start
@@ -12,51 +9,39 @@ Inv-loop doc index count k₀ start₀ before₀ k start before = Slotted doc co
 abbrev μ-loop : tie.MeasureT-loop
 μ-loop doc index count k₀ start₀ before₀ k start before = count - k
 
--- src/strings.rt:68:21
 add-start : tie.Need-add-start Inv-loop μ-loop
 add-start c = search read-slots-laws
 
--- src/strings.rt:68:33
 mul-start : tie.Need-mul-start Inv-loop μ-loop
 mul-start c = search read-slots-laws
 
--- src/strings.rt:68:21
 add-start-2 : tie.Need-add-start-2 Inv-loop μ-loop
 add-start-2 c = search read-slots-laws
 
--- src/strings.rt:70:5
 loop-holds : tie.Need-loop-holds Inv-loop μ-loop
 loop-holds c = search read-slots-laws
 
--- src/strings.rt:71:13
 read-slot-requires : tie.Need-read-slot-requires Inv-loop μ-loop
 read-slot-requires c κs = search read-slots-laws
 
--- src/strings.rt:73:27
 enum-known-w : tie.Need-enum-known-w Inv-loop μ-loop
 enum-known-w c = search read-slots-laws
 
--- src/strings.rt:74:17
 returns : tie.Need-returns Inv-loop μ-loop
 returns c = search read-slots-laws
 
--- src/strings.rt:76:23
 enum-known-w-2 : tie.Need-enum-known-w-2 Inv-loop μ-loop
 enum-known-w-2 c = search read-slots-laws
 
--- src/strings.rt:81:9
 add-k : tie.Need-add-k Inv-loop μ-loop
 add-k c = search read-slots-laws
 
--- src/strings.rt:70:5
 loop-less : tie.Need-loop-less Inv-loop μ-loop
 loop-less c = search read-slots-laws
 
--- src/strings.rt:70:5
 loop-again : tie.Need-loop-again Inv-loop μ-loop
 loop-again c = search read-slots-laws
 
--- src/strings.rt:63:1
 returns-2 : tie.Need-returns-2 Inv-loop μ-loop
 returns-2 c = search read-slots-laws
 

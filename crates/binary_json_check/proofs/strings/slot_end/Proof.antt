@@ -2,51 +2,37 @@ use Rattle.binary_json_check.proofs.Slots.{slot-end-laws}
 use borrow.Author.Needs.{needs}
 use Rattle.binary_json_check.proofs.strings.slot_end.Statement.{statement}
 use Rattle.binary_json_check.proofs.strings.slot_end.Tie as tie
-use Rattle.binary_json_check.proofs.strings.slot_end.Reads as reads
-use Rattle.binary_json_check.proofs.strings.slot_end.Lts as lts
-use Rattle.binary_json_areas.proofs.areas.fields_at.Reads as fields-at-reads
 
--- src/strings.rt:17:14
 add-at : tie.Need-add-at
 add-at c = search needs
 
--- src/strings.rt:17:26
 mul-at : tie.Need-mul-at
 mul-at c = search needs
 
--- src/strings.rt:17:14
 add-at-2 : tie.Need-add-at-2
 add-at-2 c = search needs
 
--- src/strings.rt:18:9
 fields-at-requires : tie.Need-fields-at-requires
 fields-at-requires c κs = search needs
 
--- src/strings.rt:22:9
 returns : tie.Need-returns
 returns c = search slot-end-laws
 
--- src/strings.rt:25:9
 returns-2 : tie.Need-returns-2
 returns-2 c = search slot-end-laws
 
--- src/strings.rt:28:9
 returns-3 : tie.Need-returns-3
 returns-3 c = search slot-end-laws
 
--- src/strings.rt:30:20
 sub-last : tie.Need-sub-last
 sub-last c = search needs
 
--- src/strings.rt:30:16
 shared-slice-read-last : tie.Need-shared-slice-read-last
 shared-slice-read-last c = search needs
 
--- src/strings.rt:32:9
 returns-4 : tie.Need-returns-4
 returns-4 c = search slot-end-laws
 
--- src/strings.rt:12:1
 returns-5 : tie.Need-returns-5
 returns-5 c = search slot-end-laws
 

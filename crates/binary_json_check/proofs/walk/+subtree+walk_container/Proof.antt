@@ -27,91 +27,36 @@ abbrev subtree-below : ℕ → In 1 subtree-kinds.ps
 subtree-below t = and 1 subtree-kinds.ps (falls 1 subtree-kinds.ps _<_ μ-subtree t) subtree.Pre
 
 abbrev walk-container-at : ℕ → In 1 walk-container-kinds.ps
-walk-container-at t =
-    and
-    1
-    walk-container-kinds.ps
-    (is 1 walk-container-kinds.ps μ-walk-container t)
-    walk-container.Pre
+walk-container-at t = and 1 walk-container-kinds.ps (is 1 walk-container-kinds.ps μ-walk-container t) walk-container.Pre
 
 abbrev walk-container-below : ℕ → In 1 walk-container-kinds.ps
-walk-container-below t =
-    and
-    1
-    walk-container-kinds.ps
-    (falls 1 walk-container-kinds.ps _<_ μ-walk-container t)
-    walk-container.Pre
+walk-container-below t = and 1 walk-container-kinds.ps (falls 1 walk-container-kinds.ps _<_ μ-walk-container t) walk-container.Pre
 
--- src/walk.rt:138:9
-subtree-read-entry-requires : (t : ℕ) → subtree-lts.Need-read-entry-requires (
-  read-entry-reads.Asked,
-  read-entry-reads.Learnt,
-  walk-container-below t,
-  walk-container.Post,
-) (subtree-at t) subtree.Post
+abbrev subtree-calls : ℕ → subtree-lts.Claims
+subtree-calls t = (read-entry-reads.Asked, read-entry-reads.Learnt, walk-container-below t, walk-container.Post)
+
+subtree-read-entry-requires : (t : ℕ) → subtree-lts.Need-read-entry-requires (subtree-calls t) (subtree-at t) subtree.Post
 subtree-read-entry-requires t c κs = search walk-laws
 
--- src/walk.rt:140:23
-subtree-enum-told : (t : ℕ) → subtree-lts.Need-enum-told (
-  read-entry-reads.Asked,
-  read-entry-reads.Learnt,
-  walk-container-below t,
-  walk-container.Post,
-) (subtree-at t) subtree.Post
+subtree-enum-told : (t : ℕ) → subtree-lts.Need-enum-told (subtree-calls t) (subtree-at t) subtree.Post
 subtree-enum-told t c = search walk-laws
 
--- src/walk.rt:141:24
-subtree-enum-told-2 : (t : ℕ) → subtree-lts.Need-enum-told-2 (
-  read-entry-reads.Asked,
-  read-entry-reads.Learnt,
-  walk-container-below t,
-  walk-container.Post,
-) (subtree-at t) subtree.Post
+subtree-enum-told-2 : (t : ℕ) → subtree-lts.Need-enum-told-2 (subtree-calls t) (subtree-at t) subtree.Post
 subtree-enum-told-2 t c = search walk-laws
 
--- src/walk.rt:141:24
-subtree-walk-container-requires : (t : ℕ) → subtree-lts.Need-walk-container-requires (
-  read-entry-reads.Asked,
-  read-entry-reads.Learnt,
-  walk-container-below t,
-  walk-container.Post,
-) (subtree-at t) subtree.Post
+subtree-walk-container-requires : (t : ℕ) → subtree-lts.Need-walk-container-requires (subtree-calls t) (subtree-at t) subtree.Post
 subtree-walk-container-requires t c κs = search walk-laws
 
--- src/walk.rt:142:23
-subtree-enum-known-s : (t : ℕ) → subtree-lts.Need-enum-known-s (
-  read-entry-reads.Asked,
-  read-entry-reads.Learnt,
-  walk-container-below t,
-  walk-container.Post,
-) (subtree-at t) subtree.Post
+subtree-enum-known-s : (t : ℕ) → subtree-lts.Need-enum-known-s (subtree-calls t) (subtree-at t) subtree.Post
 subtree-enum-known-s t c = search walk-laws
 
--- src/walk.rt:134:1
-subtree-returns : (t : ℕ) → subtree-lts.Need-returns (
-  read-entry-reads.Asked,
-  read-entry-reads.Learnt,
-  walk-container-below t,
-  walk-container.Post,
-) (subtree-at t) subtree.Post
+subtree-returns : (t : ℕ) → subtree-lts.Need-returns (subtree-calls t) (subtree-at t) subtree.Post
 subtree-returns t c = search walk-laws
 
--- src/walk.rt:134:1
-subtree-returns-2 : (t : ℕ) → subtree-lts.Need-returns-2 (
-  read-entry-reads.Asked,
-  read-entry-reads.Learnt,
-  walk-container-below t,
-  walk-container.Post,
-) (subtree-at t) subtree.Post
+subtree-returns-2 : (t : ℕ) → subtree-lts.Need-returns-2 (subtree-calls t) (subtree-at t) subtree.Post
 subtree-returns-2 t c = search walk-laws
 
--- src/walk.rt:134:1
-subtree-returns-3 : (t : ℕ) → subtree-lts.Need-returns-3 (
-  read-entry-reads.Asked,
-  read-entry-reads.Learnt,
-  walk-container-below t,
-  walk-container.Post,
-) (subtree-at t) subtree.Post
+subtree-returns-3 : (t : ℕ) → subtree-lts.Need-returns-3 (subtree-calls t) (subtree-at t) subtree.Post
 subtree-returns-3 t c = search walk-laws
 
 abbrev walk-container-Inv-loop : walk-container-lts.InvT-loop
@@ -120,175 +65,65 @@ walk-container-Inv-loop doc a levels o first count left₀ at₀ due₀ left at 
 abbrev walk-container-μ-loop : walk-container-lts.MeasureT-loop
 walk-container-μ-loop doc a levels o first count left₀ at₀ due₀ left at due = left
 
--- src/walk.rt:152:9
-walk-container-returns : (t : ℕ) → walk-container-lts.Need-returns (
-  open-container-reads.Asked,
-  open-container-reads.Learnt,
-  subtree-below t,
-  subtree.Post,
-) (walk-container-at t) walk-container.Post walk-container-Inv-loop walk-container-μ-loop
+abbrev walk-container-calls : ℕ → walk-container-lts.Claims
+walk-container-calls t = (open-container-reads.Asked, open-container-reads.Learnt, subtree-below t, subtree.Post)
+
+walk-container-returns : (t : ℕ) → walk-container-lts.Need-returns (walk-container-calls t) (walk-container-at t) walk-container.Post walk-container-Inv-loop walk-container-μ-loop
 walk-container-returns t c = search walk-laws
 
--- src/walk.rt:154:9
-walk-container-open-container-requires : (t : ℕ) → walk-container-lts.Need-open-container-requires (
-  open-container-reads.Asked,
-  open-container-reads.Learnt,
-  subtree-below t,
-  subtree.Post,
-) (walk-container-at t) walk-container.Post walk-container-Inv-loop walk-container-μ-loop
+walk-container-open-container-requires : (t : ℕ) → walk-container-lts.Need-open-container-requires (walk-container-calls t) (walk-container-at t) walk-container.Post walk-container-Inv-loop walk-container-μ-loop
 walk-container-open-container-requires t c κs = search walk-laws
 
--- src/walk.rt:156:26
-walk-container-enum-known-h : (t : ℕ) → walk-container-lts.Need-enum-known-h (
-  open-container-reads.Asked,
-  open-container-reads.Learnt,
-  subtree-below t,
-  subtree.Post,
-) (walk-container-at t) walk-container.Post walk-container-Inv-loop walk-container-μ-loop
+walk-container-enum-known-h : (t : ℕ) → walk-container-lts.Need-enum-known-h (walk-container-calls t) (walk-container-at t) walk-container.Post walk-container-Inv-loop walk-container-μ-loop
 walk-container-enum-known-h t c = search walk-laws
 
--- src/walk.rt:157:25
-walk-container-enum-known-h-2 : (t : ℕ) → walk-container-lts.Need-enum-known-h-2 (
-  open-container-reads.Asked,
-  open-container-reads.Learnt,
-  subtree-below t,
-  subtree.Post,
-) (walk-container-at t) walk-container.Post walk-container-Inv-loop walk-container-μ-loop
+walk-container-enum-known-h-2 : (t : ℕ) → walk-container-lts.Need-enum-known-h-2 (walk-container-calls t) (walk-container-at t) walk-container.Post walk-container-Inv-loop walk-container-μ-loop
 walk-container-enum-known-h-2 t c = search walk-laws
 
--- src/walk.rt:160:35
-walk-container-mul-due : (t : ℕ) → walk-container-lts.Need-mul-due (
-  open-container-reads.Asked,
-  open-container-reads.Learnt,
-  subtree-below t,
-  subtree.Post,
-) (walk-container-at t) walk-container.Post walk-container-Inv-loop walk-container-μ-loop
+walk-container-mul-due : (t : ℕ) → walk-container-lts.Need-mul-due (walk-container-calls t) (walk-container-at t) walk-container.Post walk-container-Inv-loop walk-container-μ-loop
 walk-container-mul-due t c = search walk-laws
 
--- src/walk.rt:160:27
-walk-container-add-due : (t : ℕ) → walk-container-lts.Need-add-due (
-  open-container-reads.Asked,
-  open-container-reads.Learnt,
-  subtree-below t,
-  subtree.Post,
-) (walk-container-at t) walk-container.Post walk-container-Inv-loop walk-container-μ-loop
+walk-container-add-due : (t : ℕ) → walk-container-lts.Need-add-due (walk-container-calls t) (walk-container-at t) walk-container.Post walk-container-Inv-loop walk-container-μ-loop
 walk-container-add-due t c = search walk-laws
 
--- src/walk.rt:161:13
-walk-container-loop-holds : (t : ℕ) → walk-container-lts.Need-loop-holds (
-  open-container-reads.Asked,
-  open-container-reads.Learnt,
-  subtree-below t,
-  subtree.Post,
-) (walk-container-at t) walk-container.Post walk-container-Inv-loop walk-container-μ-loop
+walk-container-loop-holds : (t : ℕ) → walk-container-lts.Need-loop-holds (walk-container-calls t) (walk-container-at t) walk-container.Post walk-container-Inv-loop walk-container-μ-loop
 walk-container-loop-holds t c = search walk-laws
 
--- src/walk.rt:162:41
-walk-container-sub-subtree : (t : ℕ) → walk-container-lts.Need-sub-subtree (
-  open-container-reads.Asked,
-  open-container-reads.Learnt,
-  subtree-below t,
-  subtree.Post,
-) (walk-container-at t) walk-container.Post walk-container-Inv-loop walk-container-μ-loop
+walk-container-sub-subtree : (t : ℕ) → walk-container-lts.Need-sub-subtree (walk-container-calls t) (walk-container-at t) walk-container.Post walk-container-Inv-loop walk-container-μ-loop
 walk-container-sub-subtree t c = search walk-laws
 
--- src/walk.rt:162:21
-walk-container-subtree-requires : (t : ℕ) → walk-container-lts.Need-subtree-requires (
-  open-container-reads.Asked,
-  open-container-reads.Learnt,
-  subtree-below t,
-  subtree.Post,
-) (walk-container-at t) walk-container.Post walk-container-Inv-loop walk-container-μ-loop
+walk-container-subtree-requires : (t : ℕ) → walk-container-lts.Need-subtree-requires (walk-container-calls t) (walk-container-at t) walk-container.Post walk-container-Inv-loop walk-container-μ-loop
 walk-container-subtree-requires t c κs = search walk-laws
 
--- src/walk.rt:164:31
-walk-container-enum-known-t : (t : ℕ) → walk-container-lts.Need-enum-known-t (
-  open-container-reads.Asked,
-  open-container-reads.Learnt,
-  subtree-below t,
-  subtree.Post,
-) (walk-container-at t) walk-container.Post walk-container-Inv-loop walk-container-μ-loop
+walk-container-enum-known-t : (t : ℕ) → walk-container-lts.Need-enum-known-t (walk-container-calls t) (walk-container-at t) walk-container.Post walk-container-Inv-loop walk-container-μ-loop
 walk-container-enum-known-t t c = search walk-laws
 
--- src/walk.rt:167:35
-walk-container-enum-known-t-2 : (t : ℕ) → walk-container-lts.Need-enum-known-t-2 (
-  open-container-reads.Asked,
-  open-container-reads.Learnt,
-  subtree-below t,
-  subtree.Post,
-) (walk-container-at t) walk-container.Post walk-container-Inv-loop walk-container-μ-loop
+walk-container-enum-known-t-2 : (t : ℕ) → walk-container-lts.Need-enum-known-t-2 (walk-container-calls t) (walk-container-at t) walk-container.Post walk-container-Inv-loop walk-container-μ-loop
 walk-container-enum-known-t-2 t c = search walk-laws
 
--- src/walk.rt:168:25
-walk-container-returns-2 : (t : ℕ) → walk-container-lts.Need-returns-2 (
-  open-container-reads.Asked,
-  open-container-reads.Learnt,
-  subtree-below t,
-  subtree.Post,
-) (walk-container-at t) walk-container.Post walk-container-Inv-loop walk-container-μ-loop
+walk-container-returns-2 : (t : ℕ) → walk-container-lts.Need-returns-2 (walk-container-calls t) (walk-container-at t) walk-container.Post walk-container-Inv-loop walk-container-μ-loop
 walk-container-returns-2 t c = search walk-laws
 
--- src/walk.rt:171:17
-walk-container-add-at : (t : ℕ) → walk-container-lts.Need-add-at (
-  open-container-reads.Asked,
-  open-container-reads.Learnt,
-  subtree-below t,
-  subtree.Post,
-) (walk-container-at t) walk-container.Post walk-container-Inv-loop walk-container-μ-loop
+walk-container-add-at : (t : ℕ) → walk-container-lts.Need-add-at (walk-container-calls t) (walk-container-at t) walk-container.Post walk-container-Inv-loop walk-container-μ-loop
 walk-container-add-at t c = search walk-laws
 
--- src/walk.rt:172:17
-walk-container-sub-left : (t : ℕ) → walk-container-lts.Need-sub-left (
-  open-container-reads.Asked,
-  open-container-reads.Learnt,
-  subtree-below t,
-  subtree.Post,
-) (walk-container-at t) walk-container.Post walk-container-Inv-loop walk-container-μ-loop
+walk-container-sub-left : (t : ℕ) → walk-container-lts.Need-sub-left (walk-container-calls t) (walk-container-at t) walk-container.Post walk-container-Inv-loop walk-container-μ-loop
 walk-container-sub-left t c = search walk-laws
 
--- src/walk.rt:161:13
-walk-container-loop-less : (t : ℕ) → walk-container-lts.Need-loop-less (
-  open-container-reads.Asked,
-  open-container-reads.Learnt,
-  subtree-below t,
-  subtree.Post,
-) (walk-container-at t) walk-container.Post walk-container-Inv-loop walk-container-μ-loop
+walk-container-loop-less : (t : ℕ) → walk-container-lts.Need-loop-less (walk-container-calls t) (walk-container-at t) walk-container.Post walk-container-Inv-loop walk-container-μ-loop
 walk-container-loop-less t c = search walk-laws
 
--- src/walk.rt:161:13
-walk-container-loop-again : (t : ℕ) → walk-container-lts.Need-loop-again (
-  open-container-reads.Asked,
-  open-container-reads.Learnt,
-  subtree-below t,
-  subtree.Post,
-) (walk-container-at t) walk-container.Post walk-container-Inv-loop walk-container-μ-loop
+walk-container-loop-again : (t : ℕ) → walk-container-lts.Need-loop-again (walk-container-calls t) (walk-container-at t) walk-container.Post walk-container-Inv-loop walk-container-μ-loop
 walk-container-loop-again t c = search walk-laws
 
--- src/walk.rt:147:1
-walk-container-returns-3 : (t : ℕ) → walk-container-lts.Need-returns-3 (
-  open-container-reads.Asked,
-  open-container-reads.Learnt,
-  subtree-below t,
-  subtree.Post,
-) (walk-container-at t) walk-container.Post walk-container-Inv-loop walk-container-μ-loop
+walk-container-returns-3 : (t : ℕ) → walk-container-lts.Need-returns-3 (walk-container-calls t) (walk-container-at t) walk-container.Post walk-container-Inv-loop walk-container-μ-loop
 walk-container-returns-3 t c = search walk-laws
 
--- src/walk.rt:147:1
-walk-container-returns-4 : (t : ℕ) → walk-container-lts.Need-returns-4 (
-  open-container-reads.Asked,
-  open-container-reads.Learnt,
-  subtree-below t,
-  subtree.Post,
-) (walk-container-at t) walk-container.Post walk-container-Inv-loop walk-container-μ-loop
+walk-container-returns-4 : (t : ℕ) → walk-container-lts.Need-returns-4 (walk-container-calls t) (walk-container-at t) walk-container.Post walk-container-Inv-loop walk-container-μ-loop
 walk-container-returns-4 t c = search walk-laws
 
 pub +subtree+walk-container-spec : {M : Type 1} → statement M
-+subtree+walk-container-spec = close μ-subtree μ-walk-container (λ t. subtree-lts.spec (
-  read-entry-reads.Asked,
-  read-entry-reads.Learnt,
-  walk-container-below t,
-  walk-container.Post,
-)
++subtree+walk-container-spec = close μ-subtree μ-walk-container (λ t. subtree-lts.spec (subtree-calls t)
     (subtree-at t)
     subtree.Post
     (subtree-read-entry-requires t)
@@ -300,7 +135,7 @@ pub +subtree+walk-container-spec : {M : Type 1} → statement M
     (subtree-returns-2 t)
     (subtree-returns-3 t))
     λ t. walk-container-lts.spec
-    (open-container-reads.Asked, open-container-reads.Learnt, subtree-below t, subtree.Post)
+    (walk-container-calls t)
     (walk-container-at t)
     walk-container.Post
     walk-container-Inv-loop

@@ -1,10 +1,6 @@
 use Rattle.binary_json_check.proofs.Walks.{Keyed, key-laws}
 use Rattle.binary_json_check.proofs.walk.key_entries.Statement.{statement}
 use Rattle.binary_json_check.proofs.walk.key_entries.Tie as tie
-use Rattle.binary_json_check.proofs.walk.key_entries.Reads as reads
-use Rattle.binary_json_check.proofs.walk.key_entries.Lts as lts
-use Rattle.binary_json_areas.proofs.areas.word_at.Reads as word-at-reads
-use Rattle.binary_json_areas.proofs.named.slot_named.Reads as slot-named-reads
 
 abbrev Inv-loop : tie.InvT-loop
 Inv-loop doc a first n left₀ at₀ before₀ left at before = Keyed doc a first n left before at
@@ -12,43 +8,33 @@ Inv-loop doc a first n left₀ at₀ before₀ left at before = Keyed doc a firs
 abbrev μ-loop : tie.MeasureT-loop
 μ-loop doc a first n left₀ at₀ before₀ left at before = left
 
--- src/walk.rt:26:5
 loop-holds : tie.Need-loop-holds Inv-loop μ-loop
 loop-holds c = search key-laws
 
--- src/walk.rt:27:13
 word-at-requires : tie.Need-word-at-requires Inv-loop μ-loop
 word-at-requires c κs = search key-laws
 
--- src/walk.rt:28:13
 slot-named-requires : tie.Need-slot-named-requires Inv-loop μ-loop
 slot-named-requires c κs = search key-laws
 
--- src/walk.rt:31:17
 returns : tie.Need-returns Inv-loop μ-loop
 returns c = search key-laws
 
--- src/walk.rt:34:13
 returns-2 : tie.Need-returns-2 Inv-loop μ-loop
 returns-2 c = search key-laws
 
--- src/walk.rt:37:9
 add-at : tie.Need-add-at Inv-loop μ-loop
 add-at c = search key-laws
 
--- src/walk.rt:38:9
 sub-left : tie.Need-sub-left Inv-loop μ-loop
 sub-left c = search key-laws
 
--- src/walk.rt:26:5
 loop-less : tie.Need-loop-less Inv-loop μ-loop
 loop-less c = search key-laws
 
--- src/walk.rt:26:5
 loop-again : tie.Need-loop-again Inv-loop μ-loop
 loop-again c = search key-laws
 
--- src/walk.rt:19:1
 returns-3 : tie.Need-returns-3 Inv-loop μ-loop
 returns-3 c = search key-laws
 

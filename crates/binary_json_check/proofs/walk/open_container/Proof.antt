@@ -2,56 +2,40 @@ use Rattle.binary_json_check.proofs.Walks.{open-laws}
 use borrow.Author.Needs.{needs}
 use Rattle.binary_json_check.proofs.walk.open_container.Statement.{statement}
 use Rattle.binary_json_check.proofs.walk.open_container.Tie as tie
-use Rattle.binary_json_check.proofs.walk.open_container.Reads as reads
-use Rattle.binary_json_check.proofs.walk.open_container.Lts as lts
-use Rattle.binary_json_areas.proofs.areas.fields_at.Reads as fields-at-reads
-use Rattle.binary_json_check.proofs.walk.open_object.Reads as open-object-reads
 
--- src/walk.rt:97:9
 returns : tie.Need-returns
 returns c = search open-laws
 
--- src/walk.rt:100:9
 returns-2 : tie.Need-returns-2
 returns-2 c = search open-laws
 
--- src/walk.rt:102:9
 fields-at-requires : tie.Need-fields-at-requires
 fields-at-requires c κs = search needs
 
--- src/walk.rt:106:22
 add-if4 : tie.Need-add-if4
 add-if4 c = search needs
 
--- src/walk.rt:106:30
 mul-if4 : tie.Need-mul-if4
 mul-if4 c = search needs
 
--- src/walk.rt:106:22
 add-if4-2 : tie.Need-add-if4-2
 add-if4-2 c = search needs
 
--- src/walk.rt:107:13
 returns-3 : tie.Need-returns-3
 returns-3 c = search open-laws
 
--- src/walk.rt:109:39
 add-t11 : tie.Need-add-t11
 add-t11 c = search needs
 
--- src/walk.rt:109:9
 returns-4 : tie.Need-returns-4
 returns-4 c = search open-laws
 
--- src/walk.rt:112:9
 open-object-requires : tie.Need-open-object-requires
 open-object-requires c κs = search needs
 
--- src/walk.rt:112:9
 returns-5 : tie.Need-returns-5
 returns-5 c = search needs
 
--- src/walk.rt:92:1
 returns-6 : tie.Need-returns-6
 returns-6 c = search open-laws
 

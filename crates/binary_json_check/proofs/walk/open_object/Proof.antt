@@ -2,63 +2,46 @@ use Rattle.binary_json_check.proofs.Walks.{object-laws}
 use borrow.Author.Needs.{needs}
 use Rattle.binary_json_check.proofs.walk.open_object.Statement.{statement}
 use Rattle.binary_json_check.proofs.walk.open_object.Tie as tie
-use Rattle.binary_json_check.proofs.walk.open_object.Reads as reads
-use Rattle.binary_json_check.proofs.walk.open_object.Lts as lts
-use Rattle.binary_json_check.proofs.walk.key_entries.Reads as key-entries-reads
 
--- src/walk.rt:123:18
 add-if1 : tie.Need-add-if1
 add-if1 c = search needs
 
--- src/walk.rt:123:31
 mul-if1 : tie.Need-mul-if1
 mul-if1 c = search needs
 
--- src/walk.rt:123:26
 mul-if1-2 : tie.Need-mul-if1-2
 mul-if1-2 c = search needs
 
--- src/walk.rt:123:18
 add-if1-2 : tie.Need-add-if1-2
 add-if1-2 c = search needs
 
--- src/walk.rt:124:9
 returns : tie.Need-returns
 returns c = search object-laws
 
--- src/walk.rt:126:33
 add-key-entries : tie.Need-add-key-entries
 add-key-entries c = search needs
 
--- src/walk.rt:126:9
 key-entries-requires : tie.Need-key-entries-requires
 key-entries-requires c κs = search needs
 
--- src/walk.rt:128:26
 enum-known-k : tie.Need-enum-known-k
 enum-known-k c = search needs
 
--- src/walk.rt:129:53
 enum-told : tie.Need-enum-told
 enum-told c = search needs
 
--- src/walk.rt:129:53
 add-t14 : tie.Need-add-t14
 add-t14 c = search needs
 
--- src/walk.rt:129:61
 mul-t15 : tie.Need-mul-t15
 mul-t15 c = search needs
 
--- src/walk.rt:129:53
 add-t16 : tie.Need-add-t16
 add-t16 c = search needs
 
--- src/walk.rt:118:1
 returns-2 : tie.Need-returns-2
 returns-2 c = search object-laws
 
--- src/walk.rt:118:1
 returns-3 : tie.Need-returns-3
 returns-3 c = search object-laws
 

@@ -2,43 +2,31 @@ use Rattle.binary_json_check.proofs.Walks.{root-laws}
 use borrow.Author.Needs.{needs}
 use Rattle.binary_json_check.proofs.walk.walk_scalar.Statement.{statement}
 use Rattle.binary_json_check.proofs.walk.walk_scalar.Tie as tie
-use Rattle.binary_json_check.proofs.walk.walk_scalar.Reads as reads
-use Rattle.binary_json_check.proofs.walk.walk_scalar.Lts as lts
-use Rattle.binary_json_check.proofs.walk.read_entry.Reads as read-entry-reads
 
--- src/walk.rt:188:9
 returns : tie.Need-returns
 returns c = search root-laws
 
--- src/walk.rt:191:9
 returns-2 : tie.Need-returns-2
 returns-2 c = search root-laws
 
--- src/walk.rt:193:9
 read-entry-requires : tie.Need-read-entry-requires
 read-entry-requires c κs = search needs
 
--- src/walk.rt:195:23
 enum-told : tie.Need-enum-told
 enum-told c = search needs
 
--- src/walk.rt:196:38
 enum-told-2 : tie.Need-enum-told-2
 enum-told-2 c = search needs
 
--- src/walk.rt:197:23
 enum-known-s : tie.Need-enum-known-s
 enum-known-s c = search needs
 
--- src/walk.rt:183:1
 returns-3 : tie.Need-returns-3
 returns-3 c = search root-laws
 
--- src/walk.rt:183:1
 returns-4 : tie.Need-returns-4
 returns-4 c = search root-laws
 
--- src/walk.rt:183:1
 returns-5 : tie.Need-returns-5
 returns-5 c = search root-laws
 

@@ -2,26 +2,19 @@ use Rattle.binary_json_lookup.proofs.Searches.{text-laws}
 use borrow.Author.Needs.{needs}
 use Rattle.binary_json_lookup.proofs.lookup.bytes.Statement.{statement}
 use Rattle.binary_json_lookup.proofs.lookup.bytes.Tie as tie
-use Rattle.binary_json_lookup.proofs.lookup.bytes.Reads as reads
-use Rattle.binary_json_lookup.proofs.lookup.bytes.Lts as lts
 
--- src/lookup.rt:34:17
 add-result : tie.Need-add-result
 add-result c = search needs
 
--- src/lookup.rt:34:5
 sub-result : tie.Need-sub-result
 sub-result c = search needs
 
--- src/lookup.rt:34:5
 part-result-start : tie.Need-part-result-start
 part-result-start c = search needs
 
--- src/lookup.rt:34:5
 part-result-end : tie.Need-part-result-end
 part-result-end c = search needs
 
--- src/lookup.rt:30:1
 returns : tie.Need-returns
 returns c = search text-laws
 

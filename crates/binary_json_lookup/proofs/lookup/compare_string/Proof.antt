@@ -2,27 +2,19 @@ use Rattle.binary_json_lookup.proofs.Searches.{string-laws}
 use borrow.Author.Needs.{needs}
 use Rattle.binary_json_lookup.proofs.lookup.compare_string.Statement.{statement}
 use Rattle.binary_json_lookup.proofs.lookup.compare_string.Tie as tie
-use Rattle.binary_json_lookup.proofs.lookup.compare_string.Reads as reads
-use Rattle.binary_json_lookup.proofs.lookup.compare_string.Lts as lts
-use Rattle.binary_json_lookup.proofs.lookup.compare_text.Reads as compare-text-reads
 
--- src/lookup.rt:64:37
 add-t5 : tie.Need-add-t5
 add-t5 c = search needs
 
--- src/lookup.rt:64:51
 mul-t6 : tie.Need-mul-t6
 mul-t6 c = search needs
 
--- src/lookup.rt:64:37
 add-t7 : tie.Need-add-t7
 add-t7 c = search needs
 
--- src/lookup.rt:64:5
 compare-text-requires : tie.Need-compare-text-requires
 compare-text-requires c κs = search needs
 
--- src/lookup.rt:60:1
 returns : tie.Need-returns
 returns c = search string-laws
 

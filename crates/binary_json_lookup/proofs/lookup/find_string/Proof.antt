@@ -3,9 +3,6 @@ use Rattle.binary_json_lookup.specs.Lookups.{stringItems}
 use Rattle.binary_json_lookup.proofs.Searches.{Going, strings-laws}
 use Rattle.binary_json_lookup.proofs.lookup.find_string.Statement.{statement}
 use Rattle.binary_json_lookup.proofs.lookup.find_string.Tie as tie
-use Rattle.binary_json_lookup.proofs.lookup.find_string.Reads as reads
-use Rattle.binary_json_lookup.proofs.lookup.find_string.Lts as lts
-use Rattle.binary_json_lookup.proofs.lookup.compare_string.Reads as compare-string-reads
 
 abbrev Inv-loop : tie.InvT-loop
 Inv-loop doc a key low₀ high₀ turns₀ low high turns = Going (stringItems doc key) (a .count) low high turns
@@ -13,75 +10,57 @@ Inv-loop doc a key low₀ high₀ turns₀ low high turns = Going (stringItems d
 abbrev μ-loop : tie.MeasureT-loop
 μ-loop doc a key low₀ high₀ turns₀ low high turns = high - low
 
--- src/lookup.rt:75:5
 loop-holds : tie.Need-loop-holds Inv-loop μ-loop
 loop-holds c = search strings-laws
 
--- src/lookup.rt:76:26
 sub-mid : tie.Need-sub-mid Inv-loop μ-loop
 sub-mid c = search strings-laws
 
--- src/lookup.rt:76:19
 add-mid : tie.Need-add-mid Inv-loop μ-loop
 add-mid c = search strings-laws
 
--- src/lookup.rt:77:9
 add-turns : tie.Need-add-turns Inv-loop μ-loop
 add-turns c = search strings-laws
 
--- src/lookup.rt:78:13
 compare-string-requires : tie.Need-compare-string-requires Inv-loop μ-loop
 compare-string-requires c κs = search strings-laws
 
--- src/lookup.rt:81:17
 enum-told : tie.Need-enum-told Inv-loop μ-loop
 enum-told c = search strings-laws
 
--- src/lookup.rt:81:17
 returns : tie.Need-returns Inv-loop μ-loop
 returns c = search strings-laws
 
--- src/lookup.rt:83:26
 enum-known-o : tie.Need-enum-known-o Inv-loop μ-loop
 enum-known-o c = search strings-laws
 
--- src/lookup.rt:85:27
 enum-told-2 : tie.Need-enum-told-2 Inv-loop μ-loop
 enum-told-2 c = search strings-laws
 
--- src/lookup.rt:85:27
 add-low : tie.Need-add-low Inv-loop μ-loop
 add-low c = search strings-laws
 
--- src/lookup.rt:75:5
 loop-less : tie.Need-loop-less Inv-loop μ-loop
 loop-less c = search strings-laws
 
--- src/lookup.rt:75:5
 loop-again : tie.Need-loop-again Inv-loop μ-loop
 loop-again c = search strings-laws
 
--- src/lookup.rt:88:21
 enum-told-3 : tie.Need-enum-told-3 Inv-loop μ-loop
 enum-told-3 c = search strings-laws
 
--- src/lookup.rt:88:21
 returns-2 : tie.Need-returns-2 Inv-loop μ-loop
 returns-2 c = search strings-laws
 
--- src/lookup.rt:91:21
 enum-told-4 : tie.Need-enum-told-4 Inv-loop μ-loop
 enum-told-4 c = search strings-laws
 
--- src/lookup.rt:75:5
 loop-less-2 : tie.Need-loop-less-2 Inv-loop μ-loop
 loop-less-2 c = search strings-laws
 
--- src/lookup.rt:75:5
 loop-again-2 : tie.Need-loop-again-2 Inv-loop μ-loop
 loop-again-2 c = search strings-laws
 
--- src/lookup.rt:68:1
 returns-3 : tie.Need-returns-3 Inv-loop μ-loop
 returns-3 c = search strings-laws
 

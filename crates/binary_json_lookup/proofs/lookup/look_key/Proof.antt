@@ -2,67 +2,49 @@ use Rattle.binary_json_lookup.proofs.Searches.{look-key-laws}
 use borrow.Author.Needs.{needs}
 use Rattle.binary_json_lookup.proofs.lookup.look_key.Statement.{statement}
 use Rattle.binary_json_lookup.proofs.lookup.look_key.Tie as tie
-use Rattle.binary_json_lookup.proofs.lookup.look_key.Reads as reads
-use Rattle.binary_json_lookup.proofs.lookup.look_key.Lts as lts
-use Rattle.binary_json_lookup.proofs.lookup.find_key.Reads as find-key-reads
 
--- src/lookup.rt:129:47
 add-t11 : tie.Need-add-t11
 add-t11 c = search needs
 
--- src/lookup.rt:129:61
 mul-t12 : tie.Need-mul-t12
 mul-t12 c = search needs
 
--- src/lookup.rt:129:47
 add-t13 : tie.Need-add-t13
 add-t13 c = search needs
 
--- src/lookup.rt:129:9
 find-key-requires : tie.Need-find-key-requires
 find-key-requires c κs = search needs
 
--- src/lookup.rt:131:26
 enum-known-f : tie.Need-enum-known-f
 enum-known-f c = search needs
 
--- src/lookup.rt:132:28
 add-t16 : tie.Need-add-t16
 add-t16 c = search needs
 
--- src/lookup.rt:132:36
 mul-t17 : tie.Need-mul-t17
 mul-t17 c = search needs
 
--- src/lookup.rt:132:28
 add-t18 : tie.Need-add-t18
 add-t18 c = search needs
 
--- src/lookup.rt:132:44
 mul-t19 : tie.Need-mul-t19
 mul-t19 c = search look-key-laws
 
--- src/lookup.rt:132:28
 add-t20 : tie.Need-add-t20
 add-t20 c = search look-key-laws
 
--- src/lookup.rt:136:34
 enum-known-f-2 : tie.Need-enum-known-f-2
 enum-known-f-2 c = search needs
 
--- src/lookup.rt:140:44
 enum-told : tie.Need-enum-told
 enum-told c = search needs
 
--- src/lookup.rt:125:1
 returns : tie.Need-returns
 returns c = search look-key-laws
 
--- src/lookup.rt:125:1
 returns-2 : tie.Need-returns-2
 returns-2 c = search look-key-laws
 
--- src/lookup.rt:125:1
 returns-3 : tie.Need-returns-3
 returns-3 c = search look-key-laws
 

@@ -2,32 +2,22 @@ use Rattle.binary_json_lookup.proofs.Searches.{lookup-laws}
 use borrow.Author.Needs.{needs}
 use Rattle.binary_json_lookup.proofs.lookup.quick_lookup.Statement.{statement}
 use Rattle.binary_json_lookup.proofs.lookup.quick_lookup.Tie as tie
-use Rattle.binary_json_lookup.proofs.lookup.quick_lookup.Reads as reads
-use Rattle.binary_json_lookup.proofs.lookup.quick_lookup.Lts as lts
-use Rattle.binary_json_lookup.proofs.lookup.look.Reads as look-reads
-use Rattle.binary_json_metas.proofs.object_at.Reads as object-at-reads
 
--- src/lookup.rt:164:9
 object-at-requires : tie.Need-object-at-requires
 object-at-requires c κs = search needs
 
--- src/lookup.rt:166:25
 enum-known-o : tie.Need-enum-known-o
 enum-known-o c = search needs
 
--- src/lookup.rt:167:20
 enum-known-o-2 : tie.Need-enum-known-o-2
 enum-known-o-2 c = search needs
 
--- src/lookup.rt:167:29
 look-requires : tie.Need-look-requires
 look-requires c κs = search lookup-laws
 
--- src/lookup.rt:160:1
 returns : tie.Need-returns
 returns c = search lookup-laws
 
--- src/lookup.rt:160:1
 returns-2 : tie.Need-returns-2
 returns-2 c = search needs
 

@@ -2,10 +2,6 @@ use Prim.Native.Nat.{_-_}
 use Rattle.binary_json_lookup.proofs.Searches.{Scanning, scan-laws}
 use Rattle.binary_json_lookup.proofs.lookup.scan.Statement.{statement}
 use Rattle.binary_json_lookup.proofs.lookup.scan.Tie as tie
-use Rattle.binary_json_lookup.proofs.lookup.scan.Reads as reads
-use Rattle.binary_json_lookup.proofs.lookup.scan.Lts as lts
-use Rattle.binary_json_areas.proofs.areas.word_at.Reads as word-at-reads
-use Rattle.binary_json_lookup.proofs.lookup.compare_text.Reads as compare-text-reads
 
 abbrev Inv-loop : tie.InvT-loop
 Inv-loop doc a c n key j₀ j = Scanning doc c n key j
@@ -13,103 +9,78 @@ Inv-loop doc a c n key j₀ j = Scanning doc c n key j
 abbrev μ-loop : tie.MeasureT-loop
 μ-loop doc a c n key j₀ j = n - j
 
--- src/lookup.rt:176:5
 loop-holds : tie.Need-loop-holds Inv-loop μ-loop
 loop-holds c = search scan-laws
 
--- src/lookup.rt:177:44
 add-word-at : tie.Need-add-word-at Inv-loop μ-loop
 add-word-at c = search scan-laws
 
--- src/lookup.rt:177:52
 mul-word-at : tie.Need-mul-word-at Inv-loop μ-loop
 mul-word-at c = search scan-laws
 
--- src/lookup.rt:177:44
 add-word-at-2 : tie.Need-add-word-at-2 Inv-loop μ-loop
 add-word-at-2 c = search scan-laws
 
--- src/lookup.rt:177:13
 word-at-requires : tie.Need-word-at-requires Inv-loop μ-loop
 word-at-requires c κs = search scan-laws
 
--- src/lookup.rt:178:13
 compare-text-requires : tie.Need-compare-text-requires Inv-loop μ-loop
 compare-text-requires c κs = search scan-laws
 
--- src/lookup.rt:181:41
 enum-told : tie.Need-enum-told Inv-loop μ-loop
 enum-told c = search scan-laws
 
--- src/lookup.rt:181:17
 returns : tie.Need-returns Inv-loop μ-loop
 returns c = search scan-laws
 
--- src/lookup.rt:183:26
 enum-known-o : tie.Need-enum-known-o Inv-loop μ-loop
 enum-known-o c = search scan-laws
 
--- src/lookup.rt:185:21
 enum-told-2 : tie.Need-enum-told-2 Inv-loop μ-loop
 enum-told-2 c = search scan-laws
 
--- src/lookup.rt:185:21
 add-j : tie.Need-add-j Inv-loop μ-loop
 add-j c = search scan-laws
 
--- src/lookup.rt:176:5
 loop-less : tie.Need-loop-less Inv-loop μ-loop
 loop-less c = search scan-laws
 
--- src/lookup.rt:176:5
 loop-again : tie.Need-loop-again Inv-loop μ-loop
 loop-again c = search scan-laws
 
--- src/lookup.rt:188:54
 enum-told-3 : tie.Need-enum-told-3 Inv-loop μ-loop
 enum-told-3 c = search scan-laws
 
--- src/lookup.rt:188:54
 add-t16 : tie.Need-add-t16 Inv-loop μ-loop
 add-t16 c = search scan-laws
 
--- src/lookup.rt:188:62
 mul-t17 : tie.Need-mul-t17 Inv-loop μ-loop
 mul-t17 c = search scan-laws
 
--- src/lookup.rt:188:54
 add-t18 : tie.Need-add-t18 Inv-loop μ-loop
 add-t18 c = search scan-laws
 
--- src/lookup.rt:188:70
 mul-t19 : tie.Need-mul-t19 Inv-loop μ-loop
 mul-t19 c = search scan-laws
 
--- src/lookup.rt:188:54
 add-t20 : tie.Need-add-t20 Inv-loop μ-loop
 add-t20 c = search scan-laws
 
--- src/lookup.rt:188:21
 returns-2 : tie.Need-returns-2 Inv-loop μ-loop
 returns-2 c = search scan-laws
 
--- src/lookup.rt:191:21
 enum-told-4 : tie.Need-enum-told-4 Inv-loop μ-loop
 enum-told-4 c = search scan-laws
 
--- src/lookup.rt:191:21
 add-j-2 : tie.Need-add-j-2 Inv-loop μ-loop
 add-j-2 c = search scan-laws
 
--- src/lookup.rt:176:5
 loop-less-2 : tie.Need-loop-less-2 Inv-loop μ-loop
 loop-less-2 c = search scan-laws
 
--- src/lookup.rt:176:5
 loop-again-2 : tie.Need-loop-again-2 Inv-loop μ-loop
 loop-again-2 c = search scan-laws
 
--- src/lookup.rt:171:1
 returns-3 : tie.Need-returns-3 Inv-loop μ-loop
 returns-3 c = search scan-laws
 

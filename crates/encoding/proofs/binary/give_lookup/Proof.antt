@@ -1,11 +1,6 @@
 use Rattle.encoding.proofs.BinaryCases.{binary-cases}
 use Rattle.encoding.proofs.binary.give_lookup.Statement.{statement}
 use Rattle.encoding.proofs.binary.give_lookup.Tie as tie
-use Rattle.encoding.proofs.binary.give_lookup.Reads as reads
-use Rattle.encoding.proofs.binary.give_lookup.Lts as lts
-use Rattle.encoding.proofs.words.four.Reads as four-reads
-use Rattle.encoding.proofs.words.refuse.Reads as refuse-reads
-use Rattle.encoding.proofs.words.three.Reads as three-reads
 
 enum-known-answer : tie.Need-enum-known-answer
 enum-known-answer c = search binary-cases

@@ -1,10 +1,6 @@
 use Rattle.encoding.proofs.BinaryCases.{binary-cases}
 use Rattle.encoding.proofs.binary.give_sized.Statement.{statement}
 use Rattle.encoding.proofs.binary.give_sized.Tie as tie
-use Rattle.encoding.proofs.binary.give_sized.Reads as reads
-use Rattle.encoding.proofs.binary.give_sized.Lts as lts
-use Rattle.encoding.proofs.words.refuse.Reads as refuse-reads
-use Rattle.encoding.proofs.words.two.Reads as two-reads
 
 enum-known-answer : tie.Need-enum-known-answer
 enum-known-answer c = search binary-cases

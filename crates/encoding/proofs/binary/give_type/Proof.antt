@@ -1,10 +1,6 @@
 use Rattle.encoding.proofs.BinaryCases.{binary-cases}
 use Rattle.encoding.proofs.binary.give_type.Statement.{statement}
 use Rattle.encoding.proofs.binary.give_type.Tie as tie
-use Rattle.encoding.proofs.binary.give_type.Reads as reads
-use Rattle.encoding.proofs.binary.give_type.Lts as lts
-use Rattle.encoding.proofs.words.one.Reads as one-reads
-use Rattle.encoding.proofs.words.refuse.Reads as refuse-reads
 
 enum-told : tie.Need-enum-told
 enum-told c = search binary-cases

@@ -1,9 +1,6 @@
 use Rattle.encoding.proofs.BinaryCases.{binary-cases}
 use Rattle.encoding.proofs.binary.give_verdict.Statement.{statement}
 use Rattle.encoding.proofs.binary.give_verdict.Tie as tie
-use Rattle.encoding.proofs.binary.give_verdict.Reads as reads
-use Rattle.encoding.proofs.binary.give_verdict.Lts as lts
-use Rattle.encoding.proofs.words.refuse.Reads as refuse-reads
 
 enum-told : tie.Need-enum-told
 enum-told c = search binary-cases

@@ -1,9 +1,6 @@
 use Rattle.encoding.proofs.WordLaws.{check-cases}
 use Rattle.encoding.proofs.fractured.give_checked.Statement.{statement}
 use Rattle.encoding.proofs.fractured.give_checked.Tie as tie
-use Rattle.encoding.proofs.fractured.give_checked.Reads as reads
-use Rattle.encoding.proofs.fractured.give_checked.Lts as lts
-use Rattle.encoding.proofs.words.one.Reads as one-reads
 
 enum-told : tie.Need-enum-told
 enum-told c = search check-cases

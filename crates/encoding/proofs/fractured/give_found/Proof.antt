@@ -1,11 +1,6 @@
 use Rattle.encoding.proofs.FracturedCases.{fractured-cases}
 use Rattle.encoding.proofs.fractured.give_found.Statement.{statement}
 use Rattle.encoding.proofs.fractured.give_found.Tie as tie
-use Rattle.encoding.proofs.fractured.give_found.Reads as reads
-use Rattle.encoding.proofs.fractured.give_found.Lts as lts
-use Rattle.encoding.proofs.words.one.Reads as one-reads
-use Rattle.encoding.proofs.words.refuse.Reads as refuse-reads
-use Rattle.encoding.proofs.words.two.Reads as two-reads
 
 enum-known-answer : tie.Need-enum-known-answer
 enum-known-answer c = search fractured-cases

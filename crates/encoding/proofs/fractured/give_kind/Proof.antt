@@ -1,11 +1,6 @@
 use Rattle.encoding.proofs.FracturedCases.{fractured-cases}
 use Rattle.encoding.proofs.fractured.give_kind.Statement.{statement}
 use Rattle.encoding.proofs.fractured.give_kind.Tie as tie
-use Rattle.encoding.proofs.fractured.give_kind.Reads as reads
-use Rattle.encoding.proofs.fractured.give_kind.Lts as lts
-use Rattle.encoding.proofs.words.one.Reads as one-reads
-use Rattle.encoding.proofs.words.refuse.Reads as refuse-reads
-use Rattle.encoding.proofs.words.two.Reads as two-reads
 
 enum-told : tie.Need-enum-told
 enum-told c = search fractured-cases

@@ -1,10 +1,6 @@
 use Rattle.encoding.proofs.FracturedCases.{fractured-cases}
 use Rattle.encoding.proofs.fractured.give_place.Statement.{statement}
 use Rattle.encoding.proofs.fractured.give_place.Tie as tie
-use Rattle.encoding.proofs.fractured.give_place.Reads as reads
-use Rattle.encoding.proofs.fractured.give_place.Lts as lts
-use Rattle.encoding.proofs.words.one.Reads as one-reads
-use Rattle.encoding.proofs.words.refuse.Reads as refuse-reads
 
 enum-known-answer : tie.Need-enum-known-answer
 enum-known-answer c = search fractured-cases

@@ -1,10 +1,6 @@
 use Rattle.encoding.proofs.FracturedCases.{fractured-cases}
 use Rattle.encoding.proofs.fractured.give_text.Statement.{statement}
 use Rattle.encoding.proofs.fractured.give_text.Tie as tie
-use Rattle.encoding.proofs.fractured.give_text.Reads as reads
-use Rattle.encoding.proofs.fractured.give_text.Lts as lts
-use Rattle.encoding.proofs.words.refuse.Reads as refuse-reads
-use Rattle.encoding.proofs.words.two.Reads as two-reads
 
 enum-known-answer : tie.Need-enum-known-answer
 enum-known-answer c = search fractured-cases

@@ -1,10 +1,6 @@
 use Rattle.exports.proofs.Handing.{handing-laws}
 use Rattle.exports.proofs.binary.bj_check.Statement.{statement}
 use Rattle.exports.proofs.binary.bj_check.Tie as tie
-use Rattle.exports.proofs.binary.bj_check.Reads as reads
-use Rattle.exports.proofs.binary.bj_check.Lts as lts
-use Rattle.binary_json.proofs.check.Reads as check-reads
-use Rattle.encoding.proofs.binary.give_verdict.Reads as give-verdict-reads
 
 returns : tie.Need-returns
 returns c = search handing-laws

@@ -1,10 +1,6 @@
 use Rattle.exports.proofs.Handing.{handing-laws}
 use Rattle.exports.proofs.binary.bj_container.Statement.{statement}
 use Rattle.exports.proofs.binary.bj_container.Tie as tie
-use Rattle.exports.proofs.binary.bj_container.Reads as reads
-use Rattle.exports.proofs.binary.bj_container.Lts as lts
-use Rattle.binary_json_entries.proofs.container.Reads as container-reads
-use Rattle.encoding.proofs.binary.give_tree.Reads as give-tree-reads
 
 returns : tie.Need-returns
 returns c = search handing-laws

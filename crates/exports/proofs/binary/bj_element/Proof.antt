@@ -1,10 +1,6 @@
 use Rattle.exports.proofs.Handing.{handing-laws}
 use Rattle.exports.proofs.binary.bj_element.Statement.{statement}
 use Rattle.exports.proofs.binary.bj_element.Tie as tie
-use Rattle.exports.proofs.binary.bj_element.Reads as reads
-use Rattle.exports.proofs.binary.bj_element.Lts as lts
-use Rattle.binary_json_metas.proofs.element.Reads as element-reads
-use Rattle.encoding.proofs.binary.give_tree.Reads as give-tree-reads
 
 returns : tie.Need-returns
 returns c = search handing-laws

@@ -1,10 +1,6 @@
 use Rattle.exports.proofs.Handing.{handing-laws}
 use Rattle.exports.proofs.binary.bj_entry_type.Statement.{statement}
 use Rattle.exports.proofs.binary.bj_entry_type.Tie as tie
-use Rattle.exports.proofs.binary.bj_entry_type.Reads as reads
-use Rattle.exports.proofs.binary.bj_entry_type.Lts as lts
-use Rattle.binary_json_entries.proofs.entry_type.Reads as entry-type-reads
-use Rattle.encoding.proofs.binary.give_type.Reads as give-type-reads
 
 returns : tie.Need-returns
 returns c = search handing-laws

@@ -1,10 +1,6 @@
 use Rattle.exports.proofs.Handing.{handing-laws}
 use Rattle.exports.proofs.binary.bj_member.Statement.{statement}
 use Rattle.exports.proofs.binary.bj_member.Tie as tie
-use Rattle.exports.proofs.binary.bj_member.Reads as reads
-use Rattle.exports.proofs.binary.bj_member.Lts as lts
-use Rattle.binary_json_metas.proofs.member.Reads as member-reads
-use Rattle.encoding.proofs.binary.give_member.Reads as give-member-reads
 
 returns : tie.Need-returns
 returns c = search handing-laws

@@ -1,10 +1,6 @@
 use Rattle.exports.proofs.Handing.{handing-laws}
 use Rattle.exports.proofs.binary.bj_number.Statement.{statement}
 use Rattle.exports.proofs.binary.bj_number.Tie as tie
-use Rattle.exports.proofs.binary.bj_number.Reads as reads
-use Rattle.exports.proofs.binary.bj_number.Lts as lts
-use Rattle.binary_json_entries.proofs.number.Reads as number-reads
-use Rattle.encoding.proofs.binary.give_bits.Reads as give-bits-reads
 
 returns : tie.Need-returns
 returns c = search handing-laws

@@ -1,10 +1,6 @@
 use Rattle.exports.proofs.Handing.{handing-laws}
 use Rattle.exports.proofs.binary.bj_plain_scan.Statement.{statement}
 use Rattle.exports.proofs.binary.bj_plain_scan.Tie as tie
-use Rattle.exports.proofs.binary.bj_plain_scan.Reads as reads
-use Rattle.exports.proofs.binary.bj_plain_scan.Lts as lts
-use Rattle.binary_json.proofs.plain_scan.Reads as plain-scan-reads
-use Rattle.encoding.proofs.binary.give_scan.Reads as give-scan-reads
 
 returns : tie.Need-returns
 returns c = search handing-laws

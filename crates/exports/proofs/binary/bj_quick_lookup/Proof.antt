@@ -1,10 +1,6 @@
 use Rattle.exports.proofs.Handing.{handing-laws}
 use Rattle.exports.proofs.binary.bj_quick_lookup.Statement.{statement}
 use Rattle.exports.proofs.binary.bj_quick_lookup.Tie as tie
-use Rattle.exports.proofs.binary.bj_quick_lookup.Reads as reads
-use Rattle.exports.proofs.binary.bj_quick_lookup.Lts as lts
-use Rattle.binary_json.proofs.quick_lookup.Reads as quick-lookup-reads
-use Rattle.encoding.proofs.binary.give_lookup.Reads as give-lookup-reads
 
 returns : tie.Need-returns
 returns c = search handing-laws

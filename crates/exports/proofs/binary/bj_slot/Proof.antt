@@ -1,10 +1,6 @@
 use Rattle.exports.proofs.Handing.{handing-laws}
 use Rattle.exports.proofs.binary.bj_slot.Statement.{statement}
 use Rattle.exports.proofs.binary.bj_slot.Tie as tie
-use Rattle.exports.proofs.binary.bj_slot.Reads as reads
-use Rattle.exports.proofs.binary.bj_slot.Lts as lts
-use Rattle.binary_json_entries.proofs.slot.Reads as slot-reads
-use Rattle.encoding.proofs.binary.give_span.Reads as give-span-reads
 
 returns : tie.Need-returns
 returns c = search handing-laws

@@ -1,10 +1,6 @@
 use Rattle.exports.proofs.Handing.{handing-laws}
 use Rattle.exports.proofs.binary.bj_string.Statement.{statement}
 use Rattle.exports.proofs.binary.bj_string.Tie as tie
-use Rattle.exports.proofs.binary.bj_string.Reads as reads
-use Rattle.exports.proofs.binary.bj_string.Lts as lts
-use Rattle.binary_json_entries.proofs.string.Reads as string-reads
-use Rattle.encoding.proofs.binary.give_span.Reads as give-span-reads
 
 returns : tie.Need-returns
 returns c = search handing-laws

@@ -1,10 +1,6 @@
 use Rattle.exports.proofs.Handing.{check-laws}
 use Rattle.exports.proofs.fractured.fj_check.Statement.{statement}
 use Rattle.exports.proofs.fractured.fj_check.Tie as tie
-use Rattle.exports.proofs.fractured.fj_check.Reads as reads
-use Rattle.exports.proofs.fractured.fj_check.Lts as lts
-use Rattle.encoding.proofs.fractured.give_checked.Reads as give-checked-reads
-use Rattle.fractured_json_check.proofs.check.Reads as check-reads
 
 returns : tie.Need-returns
 returns c = search check-laws

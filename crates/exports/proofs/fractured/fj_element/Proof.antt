@@ -1,10 +1,6 @@
 use Rattle.exports.proofs.Handing.{handing-laws}
 use Rattle.exports.proofs.fractured.fj_element.Statement.{statement}
 use Rattle.exports.proofs.fractured.fj_element.Tie as tie
-use Rattle.exports.proofs.fractured.fj_element.Reads as reads
-use Rattle.exports.proofs.fractured.fj_element.Lts as lts
-use Rattle.encoding.proofs.fractured.give_place.Reads as give-place-reads
-use Rattle.fractured_json_containers.proofs.questions.element.Reads as element-reads
 
 returns : tie.Need-returns
 returns c = search handing-laws

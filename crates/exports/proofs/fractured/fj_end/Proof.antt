@@ -1,10 +1,6 @@
 use Rattle.exports.proofs.Handing.{handing-laws}
 use Rattle.exports.proofs.fractured.fj_end.Statement.{statement}
 use Rattle.exports.proofs.fractured.fj_end.Tie as tie
-use Rattle.exports.proofs.fractured.fj_end.Reads as reads
-use Rattle.exports.proofs.fractured.fj_end.Lts as lts
-use Rattle.encoding.proofs.fractured.give_place.Reads as give-place-reads
-use Rattle.fractured_json_containers.proofs.questions.end.Reads as end-reads
 
 returns : tie.Need-returns
 returns c = search handing-laws

@@ -1,10 +1,6 @@
 use Rattle.exports.proofs.Handing.{handing-laws}
 use Rattle.exports.proofs.fractured.fj_first_member.Statement.{statement}
 use Rattle.exports.proofs.fractured.fj_first_member.Tie as tie
-use Rattle.exports.proofs.fractured.fj_first_member.Reads as reads
-use Rattle.exports.proofs.fractured.fj_first_member.Lts as lts
-use Rattle.encoding.proofs.fractured.give_found.Reads as give-found-reads
-use Rattle.fractured_json_containers.proofs.questions.first_member.Reads as first-member-reads
 
 returns : tie.Need-returns
 returns c = search handing-laws

@@ -1,10 +1,6 @@
 use Rattle.exports.proofs.Handing.{handing-laws}
 use Rattle.exports.proofs.fractured.fj_kind.Statement.{statement}
 use Rattle.exports.proofs.fractured.fj_kind.Tie as tie
-use Rattle.exports.proofs.fractured.fj_kind.Reads as reads
-use Rattle.exports.proofs.fractured.fj_kind.Lts as lts
-use Rattle.encoding.proofs.fractured.give_kind.Reads as give-kind-reads
-use Rattle.fractured_json_scalars.proofs.questions.kind.Reads as kind-reads
 
 returns : tie.Need-returns
 returns c = search handing-laws

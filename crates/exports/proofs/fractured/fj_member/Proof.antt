@@ -1,10 +1,6 @@
 use Rattle.exports.proofs.Handing.{handing-laws}
 use Rattle.exports.proofs.fractured.fj_member.Statement.{statement}
 use Rattle.exports.proofs.fractured.fj_member.Tie as tie
-use Rattle.exports.proofs.fractured.fj_member.Reads as reads
-use Rattle.exports.proofs.fractured.fj_member.Lts as lts
-use Rattle.encoding.proofs.fractured.give_member.Reads as give-member-reads
-use Rattle.fractured_json_containers.proofs.questions.member.Reads as member-reads
 
 returns : tie.Need-returns
 returns c = search handing-laws

@@ -1,10 +1,6 @@
 use Rattle.exports.proofs.Handing.{handing-laws}
 use Rattle.exports.proofs.fractured.fj_number.Statement.{statement}
 use Rattle.exports.proofs.fractured.fj_number.Tie as tie
-use Rattle.exports.proofs.fractured.fj_number.Reads as reads
-use Rattle.exports.proofs.fractured.fj_number.Lts as lts
-use Rattle.encoding.proofs.fractured.give_number.Reads as give-number-reads
-use Rattle.fractured_json_scalars.proofs.questions.number.Reads as number-reads
 
 returns : tie.Need-returns
 returns c = search handing-laws

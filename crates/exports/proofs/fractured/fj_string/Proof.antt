@@ -1,10 +1,6 @@
 use Rattle.exports.proofs.Handing.{handing-laws}
 use Rattle.exports.proofs.fractured.fj_string.Statement.{statement}
 use Rattle.exports.proofs.fractured.fj_string.Tie as tie
-use Rattle.exports.proofs.fractured.fj_string.Reads as reads
-use Rattle.exports.proofs.fractured.fj_string.Lts as lts
-use Rattle.encoding.proofs.fractured.give_text.Reads as give-text-reads
-use Rattle.fractured_json_scalars.proofs.questions.string.Reads as string-reads
 
 returns : tie.Need-returns
 returns c = search handing-laws

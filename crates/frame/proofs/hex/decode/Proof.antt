@@ -6,9 +6,6 @@ use lib.ListN.{length, take, drop}
 use Rattle.frame.specs.Frame.{before, bytesOf}
 use Rattle.frame.proofs.hex.decode.Statement.{statement}
 use Rattle.frame.proofs.hex.decode.Tie as tie
-use Rattle.frame.proofs.hex.decode.Reads as reads
-use Rattle.frame.proofs.hex.decode.Lts as lts
-use Rattle.frame.proofs.hex.nibble.Reads as nibble-reads
 
 abbrev Inv-loop : tie.InvT-loop
 Inv-loop line out₀ n i₀ out i =

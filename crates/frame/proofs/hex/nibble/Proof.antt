@@ -1,8 +1,6 @@
 use Rattle.frame.proofs.Hexadecimal.{nibble-laws}
 use Rattle.frame.proofs.hex.nibble.Statement.{statement}
 use Rattle.frame.proofs.hex.nibble.Tie as tie
-use Rattle.frame.proofs.hex.nibble.Reads as reads
-use Rattle.frame.proofs.hex.nibble.Lts as lts
 
 array-read-result : tie.Need-array-read-result
 array-read-result c = search nibble-laws

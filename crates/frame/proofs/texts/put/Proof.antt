@@ -5,8 +5,6 @@ use lib.ListN.{length, take}
 use lib.Seq.{sets}
 use Rattle.frame.proofs.texts.put.Statement.{statement}
 use Rattle.frame.proofs.texts.put.Tie as tie
-use Rattle.frame.proofs.texts.put.Reads as reads
-use Rattle.frame.proofs.texts.put.Lts as lts
 
 abbrev Inv-loop : tie.InvT-loop
 Inv-loop out₀ at text i₀ out i = (i ≤ length text) × (length out ≡ length out₀) × (out ≡ sets out₀ at (take i text))

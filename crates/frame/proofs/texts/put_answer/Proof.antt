@@ -1,10 +1,6 @@
 use Rattle.frame.proofs.TextLaws.{line-laws}
 use Rattle.frame.proofs.texts.put_answer.Statement.{statement}
 use Rattle.frame.proofs.texts.put_answer.Tie as tie
-use Rattle.frame.proofs.texts.put_answer.Reads as reads
-use Rattle.frame.proofs.texts.put_answer.Lts as lts
-use Rattle.frame.proofs.texts.put.Reads as put-reads
-use Rattle.frame.proofs.texts.put_verdict.Reads as put-verdict-reads
 
 enum-told : tie.Need-enum-told
 enum-told c = search line-laws

@@ -1,10 +1,6 @@
 use Rattle.frame.proofs.TextLaws.{line-laws}
 use Rattle.frame.proofs.texts.put_number.Statement.{statement}
 use Rattle.frame.proofs.texts.put_number.Tie as tie
-use Rattle.frame.proofs.texts.put_number.Reads as reads
-use Rattle.frame.proofs.texts.put_number.Lts as lts
-use Rattle.frame.proofs.texts.put.Reads as put-reads
-use Rattle.frame.proofs.texts.put_decimal.Reads as put-decimal-reads
 
 put-requires : tie.Need-put-requires
 put-requires c κs = search line-laws

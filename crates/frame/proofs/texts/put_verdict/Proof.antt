@@ -2,10 +2,6 @@ use borrow.Author.Needs.{needs}
 use Rattle.frame.proofs.TextLaws.{line-laws}
 use Rattle.frame.proofs.texts.put_verdict.Statement.{statement}
 use Rattle.frame.proofs.texts.put_verdict.Tie as tie
-use Rattle.frame.proofs.texts.put_verdict.Reads as reads
-use Rattle.frame.proofs.texts.put_verdict.Lts as lts
-use Rattle.frame.proofs.texts.put.Reads as put-reads
-use Rattle.frame.proofs.texts.put_number.Reads as put-number-reads
 
 enum-told : tie.Need-enum-told
 enum-told c = search line-laws

@@ -1,10 +1,6 @@
 use Rattle.frame.proofs.TextLaws.{line-laws}
 use Rattle.frame.proofs.texts.text.Statement.{statement}
 use Rattle.frame.proofs.texts.text.Tie as tie
-use Rattle.frame.proofs.texts.text.Reads as reads
-use Rattle.frame.proofs.texts.text.Lts as lts
-use Rattle.frame.proofs.texts.put_answer.Reads as put-answer-reads
-use Rattle.frame.proofs.texts.put_decimal.Reads as put-decimal-reads
 
 put-decimal-requires : tie.Need-put-decimal-requires
 put-decimal-requires c κs = search line-laws

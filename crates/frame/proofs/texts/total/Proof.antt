@@ -1,10 +1,6 @@
 use Rattle.frame.proofs.TextLaws.{line-laws}
 use Rattle.frame.proofs.texts.total.Statement.{statement}
 use Rattle.frame.proofs.texts.total.Tie as tie
-use Rattle.frame.proofs.texts.total.Reads as reads
-use Rattle.frame.proofs.texts.total.Lts as lts
-use Rattle.frame.proofs.texts.put.Reads as put-reads
-use Rattle.frame.proofs.texts.put_number.Reads as put-number-reads
 
 slice-aggregate-put-number : tie.Need-slice-aggregate-put-number
 slice-aggregate-put-number c = search line-laws

@@ -1,9 +1,6 @@
-use Rattle.frames.proofs.Parts.{part-laws}
+use Rattle.frame.proofs.Frames.{part-laws}
 use Rattle.frames.proofs.lines.answer_held.Statement.{statement}
 use Rattle.frames.proofs.lines.answer_held.Tie as tie
-use Rattle.frames.proofs.lines.answer_held.Reads as reads
-use Rattle.frames.proofs.lines.answer_held.Lts as lts
-use Rattle.frames.proofs.lines.answer_line.Reads as answer-line-reads
 
 slice-aggregate-answer-line : tie.Need-slice-aggregate-answer-line
 slice-aggregate-answer-line c = search part-laws

@@ -1,13 +1,6 @@
-use Rattle.frames.proofs.Parts.{part-laws}
+use Rattle.frame.proofs.Frames.{part-laws}
 use Rattle.frames.proofs.lines.answer_line.Statement.{statement}
 use Rattle.frames.proofs.lines.answer_line.Tie as tie
-use Rattle.frames.proofs.lines.answer_line.Reads as reads
-use Rattle.frames.proofs.lines.answer_line.Lts as lts
-use Rattle.frame.proofs.answer_to.Reads as answer-to-reads
-use Rattle.frame.proofs.text.Reads as text-reads
-use Rattle.frames.proofs.lines.is_ok.Reads as is-ok-reads
-use Rattle.frames.proofs.lines.one_more.Reads as one-more-reads
-use Rattle.frames.proofs.output.say.Reads as say-reads
 
 answer-to-requires : tie.Need-answer-to-requires
 answer-to-requires c κs = search part-laws

@@ -1,10 +1,8 @@
-use Rattle.frames.proofs.Parts.{part-laws}
+use Rattle.frame.proofs.Frames.{part-laws}
 use Prim.Native.Nat.{_-_, _≤_}
 use lib.ListN.{length}
 use Rattle.frames.proofs.lines.line_end.Statement.{statement}
 use Rattle.frames.proofs.lines.line_end.Tie as tie
-use Rattle.frames.proofs.lines.line_end.Reads as reads
-use Rattle.frames.proofs.lines.line_end.Lts as lts
 
 abbrev Inv-loop : tie.InvT-loop
 Inv-loop block start i₀ i = (start ≤ i) × (i ≤ length block)

@@ -1,11 +1,6 @@
-use Rattle.frames.proofs.Parts.{part-laws}
+use Rattle.frame.proofs.Frames.{part-laws}
 use Rattle.frames.proofs.lines.say_total.Statement.{statement}
 use Rattle.frames.proofs.lines.say_total.Tie as tie
-use Rattle.frames.proofs.lines.say_total.Reads as reads
-use Rattle.frames.proofs.lines.say_total.Lts as lts
-use Rattle.frame.proofs.total.Reads as total-reads
-use Rattle.frames.proofs.output.flush.Reads as flush-reads
-use Rattle.frames.proofs.output.say.Reads as say-reads
 
 total-requires : tie.Need-total-requires
 total-requires c κs = search part-laws

@@ -1,12 +1,9 @@
-use Rattle.frames.proofs.Parts.{part-laws}
+use Rattle.frame.proofs.Frames.{part-laws}
 use mathlib.Core.Path.{_≡_}
 use Prim.Native.Nat.{_-_, _≤_}
 use lib.ListN.{length}
 use Rattle.frames.proofs.lines.take_block.Statement.{statement}
 use Rattle.frames.proofs.lines.take_block.Tie as tie
-use Rattle.frames.proofs.lines.take_block.Reads as reads
-use Rattle.frames.proofs.lines.take_block.Lts as lts
-use Rattle.frames.proofs.lines.take_line.Reads as take-line-reads
 
 abbrev Inv-loop : tie.InvT-loop
 Inv-loop line₀ out₀ block next₀ at₀ line out next at = (at ≤ length block) × (length line ≡ length line₀) × (length out ≡ length out₀)

@@ -1,11 +1,9 @@
-use Rattle.frames.proofs.Parts.{part-laws}
+use Rattle.frame.proofs.Frames.{part-laws}
 use mathlib.Core.Path.{_≡_}
 use Prim.Native.Nat.{_-_, _≤_}
 use lib.ListN.{length}
 use Rattle.frames.proofs.output.copy.Statement.{statement}
 use Rattle.frames.proofs.output.copy.Tie as tie
-use Rattle.frames.proofs.output.copy.Reads as reads
-use Rattle.frames.proofs.output.copy.Lts as lts
 
 abbrev Inv-loop : tie.InvT-loop
 Inv-loop out₀ at text n i₀ out i = (i ≤ n) × (length out ≡ length out₀)

@@ -1,9 +1,6 @@
-use Rattle.frames.proofs.Parts.{part-laws}
+use Rattle.frame.proofs.Frames.{part-laws}
 use Rattle.frames.proofs.output.flush.Statement.{statement}
 use Rattle.frames.proofs.output.flush.Tie as tie
-use Rattle.frames.proofs.output.flush.Reads as reads
-use Rattle.frames.proofs.output.flush.Lts as lts
-use Rattle.io.proofs.write_all.Reads as write-all-reads
 
 slice-aggregate-write-all : tie.Need-slice-aggregate-write-all
 slice-aggregate-write-all c = search part-laws
