@@ -55,6 +55,9 @@ module _ (doc : List ℕ) (a : Areas) (x : Laid doc a) (v : ℕ) where
 
 pub ruleset slot-named-laws = (before-slots, between-slots, behind-slots, a-slot, needs)
 
+pub long-enough : (doc : List ℕ) (a : Areas) → Laid doc a → 8 ≤ length doc
+long-enough doc a x = let f = x .framed in let l = f .least in let i = f .slots-inside in omega arith
+
 module _ (doc : List ℕ) (a : Areas) (x : Laid doc a) (v : ℕ) where
   pub before-numbers : v < a .numbers → NumberNamed doc v Numbered.Outside
   unfolding numberNamed
@@ -73,18 +76,15 @@ module _ (doc : List ℕ) (a : Areas) (x : Laid doc a) (v : ℕ) where
       outside : length doc < v + 8 → NumberNamed doc v Numbered.Outside
       outside h n p = to-inside n p ∙ fail _ _ _ _ tt (over h)
 
-      pub past-document : length doc < v → NumberNamed doc v Numbered.Outside
-      past-document h = outside (omega arith)
+      pub cut-short : length doc - 8 < v → NumberNamed doc v Numbered.Outside
+      cut-short h = outside (omega arith)
 
-      pub cut-short : v ≤ length doc → length doc - v < 8 → NumberNamed doc v Numbered.Outside
-      cut-short l h = outside (omega arith)
-
-      module _ (l : v ≤ length doc) (h : 8 ≤ length doc - v) (bits : ℕ) (e : bits ≡ number (take (length doc - v) (drop v doc)) 0 8) where
+      module _ (l : v ≤ length doc - 8) (bits : ℕ) (e : bits ≡ number (take (length doc - v) (drop v doc)) 0 8) where
         bits-are : bits ≡ number doc v 8
         bits-are = e ∙ number-part doc v 8
 
         to-finite : (n p : ℕ) → ask (numberNamed doc v n p) ≡ ask (need (finite binary64 (number doc v 8)) 10 p)
-        to-finite n p = let q : v + 8 ≤ length doc = omega arith in to-inside n p ∙ pass _ _ _ _ tt (le→leb _ _ q)
+        to-finite n p = let m = long-enough doc a x in let q : v + 8 ≤ length doc = omega arith in to-inside n p ∙ pass _ _ _ _ tt (le→leb _ _ q)
 
         pub infinite : bits / 4_503_599_627_370_496 % 2048 ≡ 2047 → NumberNamed doc v Numbered.Infinite
         unfolding finite
@@ -94,7 +94,7 @@ module _ (doc : List ℕ) (a : Areas) (x : Laid doc a) (v : ℕ) where
         unfolding finite
         finite-number q = (bits-are, λ n p. to-finite n p ∙ need-yes _ _ _ tt (not-T (eqb (number doc v 8 / 2 ^ 52 % 2 ^ 11) (2 ^ 11 - 1)) (unlike (rw bits-are at q))))
 
-pub ruleset number-named-laws = (before-numbers, between-numbers, past-document, cut-short, infinite, finite-number, needs)
+pub ruleset number-named-laws = (before-numbers, between-numbers, cut-short, infinite, finite-number, long-enough, needs)
 
 -- ---- texts
 

@@ -50,10 +50,7 @@ pub fn number_named(doc: &[u8], a: Areas, number: NumberOffset) -> Numbered
     if step != 0 {
         return Numbered::Outside;
     }
-    if doc.len() < v {
-        return Numbered::Outside;
-    }
-    if doc.len() - v < 8 {
+    if doc.len() - 8 < v {
         return Numbered::Outside;
     }
     let bits = word::eight(&doc[v..]);

@@ -182,7 +182,12 @@ fn subtree(doc: &[u8], a: Areas, below: usize, at: usize, due: usize) -> Walk
     let s = read_entry(doc, a, at, due);
     match s {
         Step::Pass => Walk::End(due),
-        Step::Child => walk_container(doc, a, below, due),
+        // copies of their own: those of the parameters would be written for every Entry
+        Step::Child => {
+            let d = doc;
+            let b = a;
+            walk_container(d, b, below, due)
+        }
         Step::Refused(r) => Walk::Refused(r),
     }
 }

@@ -256,6 +256,13 @@ module _ (doc : List ℕ) (at kind width : ℕ) (w : FloatWidth kind width) wher
     pub number-infinite : b ≡ false → refuses 43 at ≡ ask (openKind (length doc) at kind (number doc (at + 1) width) (at + 1 + width))
     number-infinite t = scalar-refused (length doc) at kind _ _ k b (e ∙ finite-is) t
 
+pub tiny-leaf : (len at kind n : ℕ) → FloatWidth kind 0 → kind < 8 → answers (leaf (at + 1)) ≡ ask (openKind len at kind n (at + 1))
+unfolding FloatWidth
+tiny-leaf len at kind n w k =
+    scalar-passes len at kind n (at + 1) k true (no-float kind n (λ e. let z = w .0 e in omega arith) (λ e. let z = w .1 e in omega arith)) refl
+
+pub ruleset tiny-open-laws = (tiny-leaf, needs)
+
 pub ruleset scalar-laws = (float-inside, number-finite, number-infinite, needs)
 
 -- ---- a value at a place
@@ -312,6 +319,9 @@ module _ (doc : List ℕ) (at : ℕ) where
     unfolding openHead sizedAt choose
     opened-tiny o z q = q ∙ sym (opening ∙ then _ _ tt (in-byte doc at (h .width) (h .tiny) z i))
 
+    pub tiny-width : h .width ≡ 0 → FloatWidth (h .kind) 0
+    tiny-width z = rw z at (widths h (getD doc at 0) hs .0)
+
     module _ (more : h .width ≡ 0 → ⊥) where
       pub opened-short : length doc - at ≤ h .width → refuses 35 at ≡ ask (openedAt doc at)
       unfolding openHead
@@ -338,4 +348,4 @@ module _ (doc : List ℕ) (at : ℕ) where
 pub counts-inside : (len : ℕ) (q : Outcome (Unit {0}) Rules.Counted) (c : Counted) (n p : ℕ) → Counts len q c → c ≡ Counted.Is n p → p ≤ len
 counts-inside len q c n p s e = let w : Counts len q (Counted.Is n p) = rw e at s in w .1
 
-pub ruleset open-laws = (open-past, opened-tiny, opened-short, float-width, opened-scalar, length-width, opened-long, needs)
+pub ruleset open-laws = (open-past, opened-tiny, tiny-width, opened-short, float-width, opened-scalar, length-width, opened-long, needs)

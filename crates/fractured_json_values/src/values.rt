@@ -97,6 +97,17 @@ fn open_kind(len: usize, at: usize, kind: u8, n: usize, past: usize) -> Open
     })
 }
 
+// The value at a place whose length is in its type byte, or which has none.
+fn open_tiny(len: usize, at: usize, kind: u8, tiny: usize) -> Open
+    requires { ⌜ (at < len) × FloatWidth kind 0 ⌝ }
+    ensures { λ r. ⌜ toldOpen r ≡ ask (openKind len at kind tiny (at + 1)) ⌝ }
+{
+    if kind < 8 {
+        return Open::Leaf(at + 1);
+    }
+    open_kind(len, at, kind, tiny, at + 1)
+}
+
 // Whether a float at a place is finite, by the two bytes that hold its exponent; whatever is no float passes.
 fn finite_at(doc: &[u8], at: usize, kind: u8) -> bool
     requires { ⌜ FloatInside (now doc) at kind ⌝ }
@@ -150,7 +161,7 @@ pub fn open_head(doc: &[u8], at: usize, h: Head) -> Open
     let kind = h.kind;
     let width = h.width;
     if width == 0 {
-        return open_kind(doc.len(), at, kind, h.tiny, at + 1);
+        return open_tiny(doc.len(), at, kind, h.tiny);
     }
     if doc.len() - at <= width {
         return Open::Refused(Refusal {
