@@ -25,9 +25,9 @@ fn member(key: &str, value: Tree) -> (Vec<u8>, Tree) {
     (key.as_bytes().to_vec(), value)
 }
 
-/// A night in a greenhouse: steps with a time, sensors and what the controller should do. About 50 KB.
+/// A night in a greenhouse: steps with a time, sensors and what the controller should do. About 50 KB as BinaryJson.
 fn scenario() -> Tree {
-    let steps = (0..200).map(|i| {
+    let steps = (0..240).map(|i| {
         let x = f64::from(i);
         let sensor = |n: f64| {
             Tree::Object(vec![
