@@ -4,22 +4,22 @@ use mathlib.Core.Path.{_≡_, refl, sym, ap, _∙_}
 use mathlib.Core.Logic.{_↔_}
 use mathlib.Core.Bool.{Bool}
 use mathlib.Core.List.{List, []}
-use Prim.Native.Nat.{ℕ, _+_, _*_, _≤_, _<_}
+use Prim.Native.Nat.{ℕ, zero, suc, _+_, _*_, _≤_, _<_}
 use Rattle.json.specs.Bytes.{part}
 use Rattle.json.specs.Number.{binary64, floatTree}
-use Rattle.json.specs.Reading.{ask, answers, refuses, told}
+use Rattle.json.specs.Reading.{halt, done, Asked, ask, answers, refuses, told}
 use Rattle.json.specs.Span as Text
 use Rattle.json.specs.Tree.{Tree, num, str, arr, obj, Trees, Members, size, sizem, ElementIs, MemberIs, IsContainer, NoNumber, NoString, NoObject, NoContainer}
-use Rattle.json.specs.declared.Refusal.{Refusal}
 use Rattle.json.specs.declared.Verdict.{Verdict}
-use Rattle.json.proofs.Reading.{halt≢done}
+use Rattle.json.proofs.Cases.{refusal, verdictIs, verdict-is, answered-exactly}
 use Rattle.binary_json_rules.specs.Areas.{word, high, count, slot, content}
 use Rattle.binary_json_rules.specs.Meaning.{EntryIs, ContainerIs, Means}
 use Rattle.binary_json_rules.specs.Verdict.{verdict}
 use Rattle.binary_json_rules.specs.Leads.{EntryOf, Leads}
 use Rattle.binary_json_rules.specs.Questions.{kindAndSize, element, keyEntryOf, entryOf, memberAt, slotText, slotBytes, entryType, containerAt, stringAt, stringBytes, numberAt}
+use Rattle.binary_json_rules.specs.Questions as Questions
 use Rattle.binary_json_rules.specs.Halving.{digits, turnsOf}
-use Rattle.binary_json_rules.specs.Lookup.{Found, counted, quickLookup, textHalving, keyTurns, plainScan}
+use Rattle.binary_json_rules.specs.Lookup.{Found, entry, absent, Counted, counted, quickLookup, textHalving, keyTurns, plainScan}
 use Rattle.binary_json_rules.specs.Answers.{sizedAs, typedAs}
 use Rattle.binary_json_rules.proofs.Demands as Rules
 use Rattle.binary_json_answers.specs.Told.{toldSized, toldTree, toldMember, toldType, toldSpan, toldBits, toldScan, toldLookup}
@@ -32,19 +32,154 @@ use Rattle.binary_json_answers.specs.declared.Bits.{Bits}
 use Rattle.binary_json_answers.specs.declared.Scanned.{Scanned}
 use Rattle.binary_json_answers.specs.declared.Looked.{Looked}
 
--- ---- Demand 1: "Bad input is refused with the number and place that document 01 fixes."
+-- ---- the case of an answer, from what it says
 
-pub refused-as-fixed : (doc : List ℕ) (r : Refusal) → told (Verdict.Refused r) ≡ verdict doc → verdict doc ≡ refuses (r .number) (r .place)
-refused-as-fixed doc r e = sym e
+abbrev sizedBy : ℕ → ℕ → Sized
+sizedBy zero n = Sized.Array n
+sizedBy (suc zero) n = Sized.Object n
+sizedBy (suc (suc k)) n = Sized.Scalar n
+
+abbrev sizedIs : Asked Questions.Sized → Sized
+sizedIs (halt n p u) = Sized.Refused (refusal n p)
+sizedIs (done s u) = sizedBy (s .kind) (s .size)
+
+sized-is : (r : Sized) → sizedIs (toldSized r) ≡ r
+sized-is (Sized.Array n) = refl
+sized-is (Sized.Object n) = refl
+sized-is (Sized.Scalar n) = refl
+sized-is (Sized.Refused r) = refl
+
+abbrev treeIs : Asked ℕ → TreeAt
+treeIs (halt n p u) = TreeAt.Refused (refusal n p)
+treeIs (done o u) = TreeAt.At (record { 0 = o })
+
+tree-is : (r : TreeAt) → treeIs (toldTree r) ≡ r
+tree-is (TreeAt.At o) = refl
+tree-is (TreeAt.Refused r) = refl
+
+abbrev memberIs : Asked Questions.MemberAt → MemberAt
+memberIs (halt n p u) = MemberAt.Refused (refusal n p)
+memberIs (done a u) = MemberAt.At (record { 0 = a .slot }) (record { 0 = a .entry })
+
+member-is : (r : MemberAt) → memberIs (toldMember r) ≡ r
+member-is (MemberAt.At s e) = refl
+member-is (MemberAt.Refused r) = refl
+
+abbrev typedBy : ℕ → Typed
+typedBy zero = Typed.False
+typedBy (suc zero) = Typed.True
+typedBy (suc (suc zero)) = Typed.Null
+typedBy (suc (suc (suc zero))) = Typed.String
+typedBy (suc (suc (suc (suc zero)))) = Typed.Number
+typedBy (suc (suc (suc (suc (suc k))))) = Typed.Container
+
+abbrev typedIs : Asked ℕ → Typed
+typedIs (halt n p u) = Typed.Refused (refusal n p)
+typedIs (done n u) = typedBy n
+
+typed-is : (r : Typed) → typedIs (toldType r) ≡ r
+typed-is Typed.False = refl
+typed-is Typed.True = refl
+typed-is Typed.Null = refl
+typed-is Typed.String = refl
+typed-is Typed.Number = refl
+typed-is Typed.Container = refl
+typed-is (Typed.Refused r) = refl
+
+abbrev spanIs : Asked Text.Span → Span
+spanIs (halt n p u) = Span.Refused (refusal n p)
+spanIs (done s u) = Span.At (s .place) (s .len)
+
+span-is : (r : Span) → spanIs (toldSpan r) ≡ r
+span-is (Span.At p n) = refl
+span-is (Span.Refused r) = refl
+
+abbrev bitsIs : Asked ℕ → Bits
+bitsIs (halt n p u) = Bits.Refused (refusal n p)
+bitsIs (done b u) = Bits.Of b
+
+bits-is : (r : Bits) → bitsIs (toldBits r) ≡ r
+bits-is (Bits.Of b) = refl
+bits-is (Bits.Refused r) = refl
+
+abbrev scannedBy : Found → Scanned
+scannedBy (entry o) = Scanned.Entry (record { 0 = o })
+scannedBy absent = Scanned.Absent
+
+abbrev scannedIs : Asked Found → Scanned
+scannedIs (halt n p u) = Scanned.Refused (refusal n p)
+scannedIs (done f u) = scannedBy f
+
+scanned-is : (r : Scanned) → scannedIs (toldScan r) ≡ r
+scanned-is (Scanned.Entry o) = refl
+scanned-is Scanned.Absent = refl
+scanned-is (Scanned.Refused r) = refl
+
+abbrev lookedBy : Found → ℕ → ℕ → Looked
+lookedBy (entry o) first second = Looked.Entry (record { 0 = o }) first second
+lookedBy absent first second = Looked.Absent first second
+
+abbrev lookedIs : Asked Counted → Looked
+lookedIs (halt n p u) = Looked.Refused (refusal n p)
+lookedIs (done a u) = lookedBy (a .answer) (a .first) (a .second)
+
+looked-is : (r : Looked) → lookedIs (toldLookup r) ≡ r
+looked-is (Looked.Entry o m n) = refl
+looked-is (Looked.Absent m n) = refl
+looked-is (Looked.Refused r) = refl
+
+-- ---- Demand 1: "Bad input is refused with the number and place that document 01 fixes": the check and each question refuse with
+-- a number and place exactly if their rule does, for all bytes, cursors, indices and keys. A text is empty at a refusal.
+
+pub refused-as-fixed : (doc : List ℕ) (n p : ℕ) (r : Verdict) → told r ≡ verdict doc → (r ≡ Verdict.Refused (refusal n p)) ↔ (verdict doc ≡ refuses n p)
+refused-as-fixed doc n p r e = answered-exactly told verdictIs verdict-is r e (Verdict.Refused (refusal n p))
+
+module _ (doc : List ℕ) (c n p : ℕ) where
+  -- at a Meta
+  pub kind-refused : (r : Sized) → toldSized r ≡ ask (kindAndSize doc c) → (r ≡ Sized.Refused (refusal n p)) ↔ (ask (kindAndSize doc c) ≡ refuses n p)
+  kind-refused r e = answered-exactly toldSized sizedIs sized-is r e (Sized.Refused (refusal n p))
+
+  pub element-refused : (i : ℕ) (r : TreeAt) → toldTree r ≡ ask (element doc c i) → (r ≡ TreeAt.Refused (refusal n p)) ↔ (ask (element doc c i) ≡ refuses n p)
+  element-refused i r e = answered-exactly toldTree treeIs tree-is r e (TreeAt.Refused (refusal n p))
+
+  pub member-refused : (j : ℕ) (r : MemberAt) → toldMember r ≡ ask (memberAt doc c j) → (r ≡ MemberAt.Refused (refusal n p)) ↔ (ask (memberAt doc c j) ≡ refuses n p)
+  member-refused j r e = answered-exactly toldMember memberIs member-is r e (MemberAt.Refused (refusal n p))
+
+  pub quick-lookup-refused : (x : List ℕ) (r : Looked) → toldLookup r ≡ ask (quickLookup doc c x) → (r ≡ Looked.Refused (refusal n p)) ↔ (ask (quickLookup doc c x) ≡ refuses n p)
+  quick-lookup-refused x r e = answered-exactly toldLookup lookedIs looked-is r e (Looked.Refused (refusal n p))
+
+  pub plain-scan-refused : (x : List ℕ) (r : Scanned) → toldScan r ≡ ask (plainScan doc c x) → (r ≡ Scanned.Refused (refusal n p)) ↔ (ask (plainScan doc c x) ≡ refuses n p)
+  plain-scan-refused x r e = answered-exactly toldScan scannedIs scanned-is r e (Scanned.Refused (refusal n p))
+
+  -- at an Entry
+  pub type-refused : (r : Typed) → toldType r ≡ ask (entryType doc c) → (r ≡ Typed.Refused (refusal n p)) ↔ (ask (entryType doc c) ≡ refuses n p)
+  type-refused r e = answered-exactly toldType typedIs typed-is r e (Typed.Refused (refusal n p))
+
+  pub container-refused : (r : TreeAt) → toldTree r ≡ ask (containerAt doc c) → (r ≡ TreeAt.Refused (refusal n p)) ↔ (ask (containerAt doc c) ≡ refuses n p)
+  container-refused r e = answered-exactly toldTree treeIs tree-is r e (TreeAt.Refused (refusal n p))
+
+  pub string-refused : (r : Span) → toldSpan r ≡ ask (stringAt doc c) → (r ≡ Span.Refused (refusal n p)) ↔ (ask (stringAt doc c) ≡ refuses n p)
+  string-refused r e = answered-exactly toldSpan spanIs span-is r e (Span.Refused (refusal n p))
+
+  pub string-text-refused : (bytes : List ℕ) → bytes ≡ stringBytes doc c → ask (stringAt doc c) ≡ refuses n p → bytes ≡ []
+  string-text-refused bytes e h = e ∙ rw h
+
+  pub number-refused : (r : Bits) → toldBits r ≡ ask (numberAt doc c) → (r ≡ Bits.Refused (refusal n p)) ↔ (ask (numberAt doc c) ≡ refuses n p)
+  number-refused r e = answered-exactly toldBits bitsIs bits-is r e (Bits.Refused (refusal n p))
+
+  -- at a slot
+  pub slot-refused : (r : Span) → toldSpan r ≡ ask (slotText doc c) → (r ≡ Span.Refused (refusal n p)) ↔ (ask (slotText doc c) ≡ refuses n p)
+  slot-refused r e = answered-exactly toldSpan spanIs span-is r e (Span.Refused (refusal n p))
+
+  pub slot-text-refused : (bytes : List ℕ) → bytes ≡ slotBytes doc c → ask (slotText doc c) ≡ refuses n p → bytes ≡ []
+  slot-text-refused bytes e h = e ∙ rw h
 
 -- ---- Demand 2: "A document is accepted exactly if it keeps the format's rules." "Each accepted document means one tree."
 
-accepted : (r : Verdict) → told r ≡ answers tt → r ≡ Verdict.Accepted
-accepted Verdict.Accepted e = refl
-accepted (Verdict.Refused r) e = absurd (halt≢done e)
-
 pub accepted-exactly : (doc : List ℕ) (r : Verdict) → told r ≡ verdict doc → (r ≡ Verdict.Accepted) ↔ ((t : Tree) × Means doc t)
-accepted-exactly doc r e = (λ a. Rules.accepted-exactly doc .0 (sym (ap told (sym a) ∙ e)), λ m. accepted r (e ∙ Rules.accepted-exactly doc .1 m))
+accepted-exactly doc r e =
+    let (to, from) = answered-exactly told verdictIs verdict-is r e Verdict.Accepted in
+    (λ a. Rules.accepted-exactly doc .0 (to a), λ m. from (Rules.accepted-exactly doc .1 m))
 
 pub one-tree : (doc : List ℕ) (t u : Tree) → Means doc t → Means doc u → t ≡ u
 one-tree doc t u m n = Rules.one-tree doc t u m n
@@ -55,9 +190,9 @@ module _ (doc : List ℕ) (t : Tree) (m : Means doc t) (c : ℕ) (l : Leads doc 
   pub kind-and-size : (u : Tree) (r : Sized) → ContainerIs doc u c → toldSized r ≡ ask (kindAndSize doc c) → toldSized r ≡ answers (sizedAs u)
   kind-and-size u r h e = e ∙ Rules.kind-and-size doc t m c l u h
 
-  pub element-of-array : (ts : Trees) (i : ℕ) (v : Tree) (r : TreeAt) → ContainerIs doc (arr ts) c → i < size ts → ElementIs ts i v → toldTree r ≡ ask (element doc c i)
+  pub element-of-array : (ts : Trees) (i : ℕ) (v : Tree) (r : TreeAt) → ContainerIs doc (arr ts) c → ElementIs ts i v → toldTree r ≡ ask (element doc c i)
       → (toldTree r ≡ answers (c + 4 + 4 * i)) × EntryIs doc v (c + 4 + 4 * i)
-  element-of-array ts i v r h b x e = let (q, s) = Rules.element-of-array doc t m c l ts i v h b x in (e ∙ q, s)
+  element-of-array ts i v r h x e = let (q, s) = Rules.element-of-array doc t m c l ts i v h x in (e ∙ q, s)
 
   pub element-past-end : (ts : Trees) (i : ℕ) (r : TreeAt) → ContainerIs doc (arr ts) c → size ts ≤ i → toldTree r ≡ ask (element doc c i) → toldTree r ≡ refuses 22 c
   element-past-end ts i r h b e = e ∙ Rules.element-past-end doc t m c l ts i h b
@@ -68,16 +203,25 @@ module _ (doc : List ℕ) (t : Tree) (m : Means doc t) (c : ℕ) (l : Leads doc 
   pub element-of-scalar : (u : Tree) (r : TreeAt) → NoContainer u → ContainerIs doc u c → toldTree r ≡ ask (element doc c 0) → (toldTree r ≡ answers (c + 4)) × EntryIs doc u (c + 4)
   element-of-scalar u r n h e = let (q, s) = Rules.element-of-scalar doc t m c l u n h in (e ∙ q, s)
 
-  pub member-of-object : (ms : Members) (j : ℕ) (x : List ℕ) (v : Tree) (r : MemberAt) (bytes : List ℕ) → ContainerIs doc (obj ms) c → j < sizem ms → MemberIs ms j x v
+  pub element-past-scalar : (u : Tree) (i : ℕ) (r : TreeAt) → NoContainer u → ContainerIs doc u c → 1 ≤ i → toldTree r ≡ ask (element doc c i) → toldTree r ≡ refuses 22 c
+  element-past-scalar u i r n h b e = e ∙ Rules.element-past-scalar doc t m c l u i n h b
+
+  pub member-of-object : (ms : Members) (j : ℕ) (x : List ℕ) (v : Tree) (r : MemberAt) (bytes : List ℕ) → ContainerIs doc (obj ms) c → MemberIs ms j x v
       → toldMember r ≡ ask (memberAt doc c j) → bytes ≡ slotBytes doc (word doc (keyEntryOf c j))
       → (toldMember r ≡ answers (record { slot = word doc (keyEntryOf c j); entry = entryOf c (sizem ms) j })) × (bytes ≡ x) × EntryIs doc v (entryOf c (sizem ms) j)
-  member-of-object ms j x v r bytes h b y e w = let (q, k, s) = Rules.member-of-object doc t m c l ms j x v h b y in (e ∙ q, w ∙ k, s)
+  member-of-object ms j x v r bytes h y e w = let (q, k, s) = Rules.member-of-object doc t m c l ms j x v h y in (e ∙ q, w ∙ k, s)
 
   pub member-past-end : (ms : Members) (j : ℕ) (r : MemberAt) → ContainerIs doc (obj ms) c → sizem ms ≤ j → toldMember r ≡ ask (memberAt doc c j) → toldMember r ≡ refuses 22 c
   member-past-end ms j r h b e = e ∙ Rules.member-past-end doc t m c l ms j h b
 
   pub member-of-other : (u : Tree) (j : ℕ) (r : MemberAt) → NoObject u → ContainerIs doc u c → toldMember r ≡ ask (memberAt doc c j) → toldMember r ≡ refuses 21 c
   member-of-other u j r n h e = e ∙ Rules.member-of-other doc t m c l u j n h
+
+  pub quick-lookup-of-other : (u : Tree) (x : List ℕ) (r : Looked) → NoObject u → ContainerIs doc u c → toldLookup r ≡ ask (quickLookup doc c x) → toldLookup r ≡ refuses 21 c
+  quick-lookup-of-other u x r n h e = e ∙ Rules.quick-lookup-of-other doc t m c l u x n h
+
+  pub plain-scan-of-other : (u : Tree) (x : List ℕ) (r : Scanned) → NoObject u → ContainerIs doc u c → toldScan r ≡ ask (plainScan doc c x) → toldScan r ≡ refuses 21 c
+  plain-scan-of-other u x r n h e = e ∙ Rules.plain-scan-of-other doc t m c l u x n h
 
   module _ (a : ℕ) (o : EntryOf doc c a) where
     pub entry-type : (v : Tree) (r : Typed) → EntryIs doc v a → toldType r ≡ ask (entryType doc a) → toldType r ≡ answers (typedAs v)
@@ -109,6 +253,9 @@ module _ (doc : List ℕ) (t : Tree) (m : Means doc t) (c : ℕ) (l : Leads doc 
 pub text-of-slot : (doc : List ℕ) (t : Tree) (m : Means doc t) (k : ℕ) (r : Span) → k < count doc → toldSpan r ≡ ask (slotText doc (slot doc k))
     → (p : Text.Span) × (toldSpan r ≡ answers p) × (part doc (p .place) (p .len) ≡ content doc k)
 text-of-slot doc t m k r b e = let (p, q, w) = Rules.text-of-slot doc t m k b in (p, e ∙ q, w)
+
+pub bytes-of-slot : (doc : List ℕ) (t : Tree) (m : Means doc t) (k : ℕ) (bytes : List ℕ) → k < count doc → bytes ≡ slotBytes doc (slot doc k) → bytes ≡ content doc k
+bytes-of-slot doc t m k bytes b e = e ∙ Rules.bytes-of-slot doc t m k b
 
 -- ---- Demand 3: "quick lookup and plain scan give the same answer: the Entry of the member with exactly that key, whose value
 -- is the one the tree holds under it, or absent exactly when no member has it. The quick lookup's two counts equal 01's
