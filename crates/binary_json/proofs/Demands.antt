@@ -1,15 +1,16 @@
 -- Demands 1 to 3 of the code's own answers. A premise such as `told r ≡ verdict doc` is the contract of the call that
--- answered r; what follows is what the caller may rely on. Each is the contract put together with a theorem about the rules.
+-- answered r; what follows, of r itself, is what the caller may rely on. Each is the contract put together with a theorem about
+-- the rules.
 use mathlib.Core.Path.{_≡_, refl, sym, ap, _∙_}
 use mathlib.Core.Logic.{_↔_}
-use mathlib.Core.Bool.{Bool}
+use mathlib.Core.Bool.{Bool, true, false}
 use mathlib.Core.List.{List, []}
 use Prim.Native.Nat.{ℕ, zero, suc, _+_, _*_, _≤_, _<_}
 use Rattle.json.specs.Bytes.{part}
 use Rattle.json.specs.Number.{binary64, floatTree}
 use Rattle.json.specs.Reading.{halt, done, Asked, ask, answers, refuses, told}
 use Rattle.json.specs.Span as Text
-use Rattle.json.specs.Tree.{Tree, num, str, arr, obj, Trees, Members, size, sizem, ElementIs, MemberIs, IsContainer, NoNumber, NoString, NoObject, NoContainer}
+use Rattle.json.specs.Tree.{Tree, null, bool, num, str, arr, obj, Trees, Members, size, sizem, ElementIs, MemberIs, IsContainer, NoNumber, NoString, NoObject, NoContainer}
 use Rattle.json.specs.declared.Verdict.{Verdict}
 use Rattle.json.proofs.Cases.{refusal, verdictIs, verdict-is, answered-exactly}
 use Rattle.binary_json_rules.specs.Areas.{word, high, count, slot, content}
@@ -19,9 +20,11 @@ use Rattle.binary_json_rules.specs.Leads.{EntryOf, Leads}
 use Rattle.binary_json_rules.specs.Questions.{kindAndSize, element, keyEntryOf, entryOf, memberAt, slotText, slotBytes, entryType, containerAt, stringAt, stringBytes, numberAt}
 use Rattle.binary_json_rules.specs.Questions as Questions
 use Rattle.binary_json_rules.specs.Halving.{digits, turnsOf}
-use Rattle.binary_json_rules.specs.Lookup.{Found, entry, absent, Counted, counted, quickLookup, textHalving, keyTurns, plainScan}
+use Rattle.binary_json_rules.specs.Lookup.{Found, entry, absent, Counted, quickLookup, textHalving, keyTurns, plainScan}
 use Rattle.binary_json_rules.specs.Answers.{sizedAs, typedAs}
 use Rattle.binary_json_rules.proofs.Demands as Rules
+use Rattle.binary_json_areas.specs.declared.offsets.TreeOffset.{TreeOffset}
+use Rattle.binary_json_areas.specs.declared.offsets.SlotOffset.{SlotOffset}
 use Rattle.binary_json_answers.specs.Told.{toldSized, toldTree, toldMember, toldType, toldSpan, toldBits, toldScan, toldLookup}
 use Rattle.binary_json_answers.specs.declared.Sized.{Sized}
 use Rattle.binary_json_answers.specs.declared.TreeAt.{TreeAt}
@@ -33,6 +36,12 @@ use Rattle.binary_json_answers.specs.declared.Scanned.{Scanned}
 use Rattle.binary_json_answers.specs.declared.Looked.{Looked}
 
 -- ---- the case of an answer, from what it says
+
+abbrev pub treeOffset : ℕ → TreeOffset
+treeOffset o = record { 0 = o }
+
+abbrev pub slotOffset : ℕ → SlotOffset
+slotOffset o = record { 0 = o }
 
 abbrev sizedBy : ℕ → ℕ → Sized
 sizedBy zero n = Sized.Array n
@@ -51,7 +60,7 @@ sized-is (Sized.Refused r) = refl
 
 abbrev treeIs : Asked ℕ → TreeAt
 treeIs (halt n p u) = TreeAt.Refused (refusal n p)
-treeIs (done o u) = TreeAt.At (record { 0 = o })
+treeIs (done o u) = TreeAt.At (treeOffset o)
 
 tree-is : (r : TreeAt) → treeIs (toldTree r) ≡ r
 tree-is (TreeAt.At o) = refl
@@ -59,7 +68,7 @@ tree-is (TreeAt.Refused r) = refl
 
 abbrev memberIs : Asked Questions.MemberAt → MemberAt
 memberIs (halt n p u) = MemberAt.Refused (refusal n p)
-memberIs (done a u) = MemberAt.At (record { 0 = a .slot }) (record { 0 = a .entry })
+memberIs (done a u) = MemberAt.At (slotOffset (a .slot)) (treeOffset (a .entry))
 
 member-is : (r : MemberAt) → memberIs (toldMember r) ≡ r
 member-is (MemberAt.At s e) = refl
@@ -102,8 +111,8 @@ bits-is : (r : Bits) → bitsIs (toldBits r) ≡ r
 bits-is (Bits.Of b) = refl
 bits-is (Bits.Refused r) = refl
 
-abbrev scannedBy : Found → Scanned
-scannedBy (entry o) = Scanned.Entry (record { 0 = o })
+abbrev pub scannedBy : Found → Scanned
+scannedBy (entry o) = Scanned.Entry (treeOffset o)
 scannedBy absent = Scanned.Absent
 
 abbrev scannedIs : Asked Found → Scanned
@@ -115,8 +124,8 @@ scanned-is (Scanned.Entry o) = refl
 scanned-is Scanned.Absent = refl
 scanned-is (Scanned.Refused r) = refl
 
-abbrev lookedBy : Found → ℕ → ℕ → Looked
-lookedBy (entry o) first second = Looked.Entry (record { 0 = o }) first second
+abbrev pub lookedBy : Found → ℕ → ℕ → Looked
+lookedBy (entry o) first second = Looked.Entry (treeOffset o) first second
 lookedBy absent first second = Looked.Absent first second
 
 abbrev lookedIs : Asked Counted → Looked
@@ -127,6 +136,43 @@ looked-is : (r : Looked) → lookedIs (toldLookup r) ≡ r
 looked-is (Looked.Entry o m n) = refl
 looked-is (Looked.Absent m n) = refl
 looked-is (Looked.Refused r) = refl
+
+-- what a tree says to the questions for its container's kind and size, and for its Entry's type
+abbrev pub sizedCase : Tree → Sized
+sizedCase null = Sized.Scalar 1
+sizedCase (bool b) = Sized.Scalar 1
+sizedCase (num s m) = Sized.Scalar 1
+sizedCase (str s) = Sized.Scalar 1
+sizedCase (arr ts) = Sized.Array (size ts)
+sizedCase (obj ms) = Sized.Object (sizem ms)
+
+sized-case : (u : Tree) → sizedIs (answers (sizedAs u)) ≡ sizedCase u
+unfolding sizedAs
+sized-case null = refl
+sized-case (bool b) = refl
+sized-case (num s m) = refl
+sized-case (str s) = refl
+sized-case (arr ts) = refl
+sized-case (obj ms) = refl
+
+abbrev pub typedCase : Tree → Typed
+typedCase null = Typed.Null
+typedCase (bool false) = Typed.False
+typedCase (bool true) = Typed.True
+typedCase (num s m) = Typed.Number
+typedCase (str s) = Typed.String
+typedCase (arr ts) = Typed.Container
+typedCase (obj ms) = Typed.Container
+
+typed-case : (u : Tree) → typedIs (answers (typedAs u)) ≡ typedCase u
+unfolding typedAs
+typed-case null = refl
+typed-case (bool false) = refl
+typed-case (bool true) = refl
+typed-case (num s m) = refl
+typed-case (str s) = refl
+typed-case (arr ts) = refl
+typed-case (obj ms) = refl
 
 -- ---- Demand 1: "Bad input is refused with the number and place that document 01 fixes": the check and each question refuse with
 -- a number and place exactly if their rule does, for all bytes, cursors, indices and keys. A text is empty at a refusal.
@@ -187,72 +233,72 @@ one-tree doc t u m n = Rules.one-tree doc t u m n
 -- ---- "Every question put to a node that its root leads to is answered from that tree."
 
 module _ (doc : List ℕ) (t : Tree) (m : Means doc t) (c : ℕ) (l : Leads doc c) where
-  pub kind-and-size : (u : Tree) (r : Sized) → ContainerIs doc u c → toldSized r ≡ ask (kindAndSize doc c) → toldSized r ≡ answers (sizedAs u)
-  kind-and-size u r h e = e ∙ Rules.kind-and-size doc t m c l u h
+  pub kind-and-size : (u : Tree) (r : Sized) → ContainerIs doc u c → toldSized r ≡ ask (kindAndSize doc c) → r ≡ sizedCase u
+  kind-and-size u r h e = sym (sized-is r) ∙ (ap sizedIs (e ∙ Rules.kind-and-size doc t m c l u h) ∙ sized-case u)
 
   pub element-of-array : (ts : Trees) (i : ℕ) (v : Tree) (r : TreeAt) → ContainerIs doc (arr ts) c → ElementIs ts i v → toldTree r ≡ ask (element doc c i)
-      → (toldTree r ≡ answers (c + 4 + 4 * i)) × EntryIs doc v (c + 4 + 4 * i)
-  element-of-array ts i v r h x e = let (q, s) = Rules.element-of-array doc t m c l ts i v h x in (e ∙ q, s)
+      → (r ≡ TreeAt.At (treeOffset (c + 4 + 4 * i))) × EntryIs doc v (c + 4 + 4 * i)
+  element-of-array ts i v r h x e = let (q, s) = Rules.element-of-array doc t m c l ts i v h x in (sym (tree-is r) ∙ ap treeIs (e ∙ q), s)
 
-  pub element-past-end : (ts : Trees) (i : ℕ) (r : TreeAt) → ContainerIs doc (arr ts) c → size ts ≤ i → toldTree r ≡ ask (element doc c i) → toldTree r ≡ refuses 22 c
-  element-past-end ts i r h b e = e ∙ Rules.element-past-end doc t m c l ts i h b
+  pub element-past-end : (ts : Trees) (i : ℕ) (r : TreeAt) → ContainerIs doc (arr ts) c → size ts ≤ i → toldTree r ≡ ask (element doc c i) → r ≡ TreeAt.Refused (refusal 22 c)
+  element-past-end ts i r h b e = sym (tree-is r) ∙ ap treeIs (e ∙ Rules.element-past-end doc t m c l ts i h b)
 
-  pub element-of-object : (ms : Members) (i : ℕ) (r : TreeAt) → ContainerIs doc (obj ms) c → toldTree r ≡ ask (element doc c i) → toldTree r ≡ refuses 21 c
-  element-of-object ms i r h e = e ∙ Rules.element-of-object doc t m c l ms i h
+  pub element-of-object : (ms : Members) (i : ℕ) (r : TreeAt) → ContainerIs doc (obj ms) c → toldTree r ≡ ask (element doc c i) → r ≡ TreeAt.Refused (refusal 21 c)
+  element-of-object ms i r h e = sym (tree-is r) ∙ ap treeIs (e ∙ Rules.element-of-object doc t m c l ms i h)
 
-  pub element-of-scalar : (u : Tree) (r : TreeAt) → NoContainer u → ContainerIs doc u c → toldTree r ≡ ask (element doc c 0) → (toldTree r ≡ answers (c + 4)) × EntryIs doc u (c + 4)
-  element-of-scalar u r n h e = let (q, s) = Rules.element-of-scalar doc t m c l u n h in (e ∙ q, s)
+  pub element-of-scalar : (u : Tree) (r : TreeAt) → NoContainer u → ContainerIs doc u c → toldTree r ≡ ask (element doc c 0) → (r ≡ TreeAt.At (treeOffset (c + 4))) × EntryIs doc u (c + 4)
+  element-of-scalar u r n h e = let (q, s) = Rules.element-of-scalar doc t m c l u n h in (sym (tree-is r) ∙ ap treeIs (e ∙ q), s)
 
-  pub element-past-scalar : (u : Tree) (i : ℕ) (r : TreeAt) → NoContainer u → ContainerIs doc u c → 1 ≤ i → toldTree r ≡ ask (element doc c i) → toldTree r ≡ refuses 22 c
-  element-past-scalar u i r n h b e = e ∙ Rules.element-past-scalar doc t m c l u i n h b
+  pub element-past-scalar : (u : Tree) (i : ℕ) (r : TreeAt) → NoContainer u → ContainerIs doc u c → 1 ≤ i → toldTree r ≡ ask (element doc c i) → r ≡ TreeAt.Refused (refusal 22 c)
+  element-past-scalar u i r n h b e = sym (tree-is r) ∙ ap treeIs (e ∙ Rules.element-past-scalar doc t m c l u i n h b)
 
   pub member-of-object : (ms : Members) (j : ℕ) (x : List ℕ) (v : Tree) (r : MemberAt) (bytes : List ℕ) → ContainerIs doc (obj ms) c → MemberIs ms j x v
       → toldMember r ≡ ask (memberAt doc c j) → bytes ≡ slotBytes doc (word doc (keyEntryOf c j))
-      → (toldMember r ≡ answers (record { slot = word doc (keyEntryOf c j); entry = entryOf c (sizem ms) j })) × (bytes ≡ x) × EntryIs doc v (entryOf c (sizem ms) j)
-  member-of-object ms j x v r bytes h y e w = let (q, k, s) = Rules.member-of-object doc t m c l ms j x v h y in (e ∙ q, w ∙ k, s)
+      → (r ≡ MemberAt.At (slotOffset (word doc (keyEntryOf c j))) (treeOffset (entryOf c (sizem ms) j))) × (bytes ≡ x) × EntryIs doc v (entryOf c (sizem ms) j)
+  member-of-object ms j x v r bytes h y e w = let (q, k, s) = Rules.member-of-object doc t m c l ms j x v h y in (sym (member-is r) ∙ ap memberIs (e ∙ q), w ∙ k, s)
 
-  pub member-past-end : (ms : Members) (j : ℕ) (r : MemberAt) → ContainerIs doc (obj ms) c → sizem ms ≤ j → toldMember r ≡ ask (memberAt doc c j) → toldMember r ≡ refuses 22 c
-  member-past-end ms j r h b e = e ∙ Rules.member-past-end doc t m c l ms j h b
+  pub member-past-end : (ms : Members) (j : ℕ) (r : MemberAt) → ContainerIs doc (obj ms) c → sizem ms ≤ j → toldMember r ≡ ask (memberAt doc c j) → r ≡ MemberAt.Refused (refusal 22 c)
+  member-past-end ms j r h b e = sym (member-is r) ∙ ap memberIs (e ∙ Rules.member-past-end doc t m c l ms j h b)
 
-  pub member-of-other : (u : Tree) (j : ℕ) (r : MemberAt) → NoObject u → ContainerIs doc u c → toldMember r ≡ ask (memberAt doc c j) → toldMember r ≡ refuses 21 c
-  member-of-other u j r n h e = e ∙ Rules.member-of-other doc t m c l u j n h
+  pub member-of-other : (u : Tree) (j : ℕ) (r : MemberAt) → NoObject u → ContainerIs doc u c → toldMember r ≡ ask (memberAt doc c j) → r ≡ MemberAt.Refused (refusal 21 c)
+  member-of-other u j r n h e = sym (member-is r) ∙ ap memberIs (e ∙ Rules.member-of-other doc t m c l u j n h)
 
-  pub quick-lookup-of-other : (u : Tree) (x : List ℕ) (r : Looked) → NoObject u → ContainerIs doc u c → toldLookup r ≡ ask (quickLookup doc c x) → toldLookup r ≡ refuses 21 c
-  quick-lookup-of-other u x r n h e = e ∙ Rules.quick-lookup-of-other doc t m c l u x n h
+  pub quick-lookup-of-other : (u : Tree) (x : List ℕ) (r : Looked) → NoObject u → ContainerIs doc u c → toldLookup r ≡ ask (quickLookup doc c x) → r ≡ Looked.Refused (refusal 21 c)
+  quick-lookup-of-other u x r n h e = sym (looked-is r) ∙ ap lookedIs (e ∙ Rules.quick-lookup-of-other doc t m c l u x n h)
 
-  pub plain-scan-of-other : (u : Tree) (x : List ℕ) (r : Scanned) → NoObject u → ContainerIs doc u c → toldScan r ≡ ask (plainScan doc c x) → toldScan r ≡ refuses 21 c
-  plain-scan-of-other u x r n h e = e ∙ Rules.plain-scan-of-other doc t m c l u x n h
+  pub plain-scan-of-other : (u : Tree) (x : List ℕ) (r : Scanned) → NoObject u → ContainerIs doc u c → toldScan r ≡ ask (plainScan doc c x) → r ≡ Scanned.Refused (refusal 21 c)
+  plain-scan-of-other u x r n h e = sym (scanned-is r) ∙ ap scannedIs (e ∙ Rules.plain-scan-of-other doc t m c l u x n h)
 
   module _ (a : ℕ) (o : EntryOf doc c a) where
-    pub entry-type : (v : Tree) (r : Typed) → EntryIs doc v a → toldType r ≡ ask (entryType doc a) → toldType r ≡ answers (typedAs v)
-    entry-type v r h e = e ∙ Rules.entry-type doc t m c l a o v h
+    pub entry-type : (v : Tree) (r : Typed) → EntryIs doc v a → toldType r ≡ ask (entryType doc a) → r ≡ typedCase v
+    entry-type v r h e = sym (typed-is r) ∙ (ap typedIs (e ∙ Rules.entry-type doc t m c l a o v h) ∙ typed-case v)
 
     pub container-of-entry : (v : Tree) (r : TreeAt) → IsContainer v → EntryIs doc v a → toldTree r ≡ ask (containerAt doc a)
-        → (toldTree r ≡ answers (high doc a)) × Leads doc (high doc a) × ContainerIs doc v (high doc a)
-    container-of-entry v r n h e = let (q, s, w) = Rules.container-of-entry doc t m c l a o v n h in (e ∙ q, s, w)
+        → (r ≡ TreeAt.At (treeOffset (high doc a))) × Leads doc (high doc a) × ContainerIs doc v (high doc a)
+    container-of-entry v r n h e = let (q, s, w) = Rules.container-of-entry doc t m c l a o v n h in (sym (tree-is r) ∙ ap treeIs (e ∙ q), s, w)
 
-    pub container-of-scalar : (v : Tree) (r : TreeAt) → NoContainer v → EntryIs doc v a → toldTree r ≡ ask (containerAt doc a) → toldTree r ≡ refuses 21 a
-    container-of-scalar v r n h e = e ∙ Rules.container-of-scalar doc t m c l a o v n h
+    pub container-of-scalar : (v : Tree) (r : TreeAt) → NoContainer v → EntryIs doc v a → toldTree r ≡ ask (containerAt doc a) → r ≡ TreeAt.Refused (refusal 21 a)
+    container-of-scalar v r n h e = sym (tree-is r) ∙ ap treeIs (e ∙ Rules.container-of-scalar doc t m c l a o v n h)
 
-    pub string-of-entry : (s : List ℕ) (r : Span) → EntryIs doc (str s) a → toldSpan r ≡ ask (stringAt doc a) → (p : Text.Span) × (toldSpan r ≡ answers p) × (part doc (p .place) (p .len) ≡ s)
-    string-of-entry s r h e = let (p, q, w) = Rules.string-of-entry doc t m c l a o s h in (p, e ∙ q, w)
+    pub string-of-entry : (s : List ℕ) (r : Span) → EntryIs doc (str s) a → toldSpan r ≡ ask (stringAt doc a) → (p : Text.Span) × (r ≡ Span.At (p .place) (p .len)) × (part doc (p .place) (p .len) ≡ s)
+    string-of-entry s r h e = let (p, q, w) = Rules.string-of-entry doc t m c l a o s h in (p, sym (span-is r) ∙ ap spanIs (e ∙ q), w)
 
     pub text-of-entry : (s bytes : List ℕ) → EntryIs doc (str s) a → bytes ≡ stringBytes doc a → bytes ≡ s
     text-of-entry s bytes h e = e ∙ Rules.text-of-entry doc t m c l a o s h
 
     pub string-of-other : (v : Tree) (r : Span) (bytes : List ℕ) → NoString v → EntryIs doc v a → toldSpan r ≡ ask (stringAt doc a) → bytes ≡ stringBytes doc a
-        → (toldSpan r ≡ refuses 21 a) × (bytes ≡ [])
-    string-of-other v r bytes n h e w = let (q, k) = Rules.string-of-other doc t m c l a o v n h in (e ∙ q, w ∙ k)
+        → (r ≡ Span.Refused (refusal 21 a)) × (bytes ≡ [])
+    string-of-other v r bytes n h e w = let (q, k) = Rules.string-of-other doc t m c l a o v n h in (sym (span-is r) ∙ ap spanIs (e ∙ q), w ∙ k)
 
-    pub number-of-entry : (s : Bool) (n : ℕ) (r : Bits) → EntryIs doc (num s n) a → toldBits r ≡ ask (numberAt doc a) → (bits : ℕ) × (toldBits r ≡ answers bits) × (floatTree binary64 bits ≡ num s n)
-    number-of-entry s n r h e = let (b, q, w) = Rules.number-of-entry doc t m c l a o s n h in (b, e ∙ q, w)
+    pub number-of-entry : (s : Bool) (n : ℕ) (r : Bits) → EntryIs doc (num s n) a → toldBits r ≡ ask (numberAt doc a) → (bits : ℕ) × (r ≡ Bits.Of bits) × (floatTree binary64 bits ≡ num s n)
+    number-of-entry s n r h e = let (b, q, w) = Rules.number-of-entry doc t m c l a o s n h in (b, sym (bits-is r) ∙ ap bitsIs (e ∙ q), w)
 
-    pub number-of-other : (v : Tree) (r : Bits) → NoNumber v → EntryIs doc v a → toldBits r ≡ ask (numberAt doc a) → toldBits r ≡ refuses 21 a
-    number-of-other v r n h e = e ∙ Rules.number-of-other doc t m c l a o v n h
+    pub number-of-other : (v : Tree) (r : Bits) → NoNumber v → EntryIs doc v a → toldBits r ≡ ask (numberAt doc a) → r ≡ Bits.Refused (refusal 21 a)
+    number-of-other v r n h e = sym (bits-is r) ∙ ap bitsIs (e ∙ Rules.number-of-other doc t m c l a o v n h)
 
 pub text-of-slot : (doc : List ℕ) (t : Tree) (m : Means doc t) (k : ℕ) (r : Span) → k < count doc → toldSpan r ≡ ask (slotText doc (slot doc k))
-    → (p : Text.Span) × (toldSpan r ≡ answers p) × (part doc (p .place) (p .len) ≡ content doc k)
-text-of-slot doc t m k r b e = let (p, q, w) = Rules.text-of-slot doc t m k b in (p, e ∙ q, w)
+    → (p : Text.Span) × (r ≡ Span.At (p .place) (p .len)) × (part doc (p .place) (p .len) ≡ content doc k)
+text-of-slot doc t m k r b e = let (p, q, w) = Rules.text-of-slot doc t m k b in (p, sym (span-is r) ∙ ap spanIs (e ∙ q), w)
 
 pub bytes-of-slot : (doc : List ℕ) (t : Tree) (m : Means doc t) (k : ℕ) (bytes : List ℕ) → k < count doc → bytes ≡ slotBytes doc (slot doc k) → bytes ≡ content doc k
 bytes-of-slot doc t m k bytes b e = e ∙ Rules.bytes-of-slot doc t m k b
@@ -264,10 +310,10 @@ bytes-of-slot doc t m k bytes b e = e ∙ Rules.bytes-of-slot doc t m k b
 pub record LookedUp (doc : List ℕ) (t : Tree) (m : Means doc t) (c : ℕ) (ms : Members) (x : List ℕ) (quick : Looked) (scan : Scanned) : Type 0 where
   pub answer : Found
   pub right : Rules.Answered doc t m c ms x answer
-  pub by-scan : toldScan scan ≡ answers answer
+  pub by-scan : scan ≡ scannedBy answer
   pub first : ℕ
   pub second : ℕ
-  pub by-halving : toldLookup quick ≡ answers (counted answer first second)
+  pub by-halving : quick ≡ lookedBy answer first second
   pub first-is : first ≡ turnsOf (textHalving doc x)
   pub second-is : second ≡ keyTurns doc c (sizem ms) (textHalving doc x)
   pub few : first + second ≤ digits (count doc) + digits (sizem ms)
@@ -279,10 +325,10 @@ lookups-agree doc t m c ms x quick scan l h p q =
     record {
       answer = r .answer;
       right = r .right;
-      by-scan = q ∙ r .by-scan;
+      by-scan = sym (scanned-is scan) ∙ ap scannedIs (q ∙ r .by-scan);
       first = r .first;
       second = r .second;
-      by-halving = p ∙ r .by-halving;
+      by-halving = sym (looked-is quick) ∙ ap lookedIs (p ∙ r .by-halving);
       first-is = r .first-is;
       second-is = r .second-is;
       few = r .few;
