@@ -1,27 +1,30 @@
 -- Demands 1 to 3 of the code's own answers. A premise such as `told r ≡ verdict doc` is the contract of the call that
--- answered r; what follows is what the caller may rely on. Each is the contract put together with a theorem about the rules.
+-- answered r; what follows, of r itself, is what the caller may rely on. Each is the contract put together with a theorem about
+-- the rules.
 use mathlib.Core.Path.{_≡_, refl, sym, ap, _∙_}
 use mathlib.Core.Logic.{_↔_}
-use mathlib.Core.Bool.{Bool}
+use mathlib.Core.Bool.{Bool, true, false}
 use mathlib.Core.List.{List, []}
-use Prim.Native.Nat.{ℕ, _+_, _*_, _≤_, _<_}
+use Prim.Native.Nat.{ℕ, zero, suc, _+_, _*_, _≤_, _<_}
 use Rattle.json.specs.Bytes.{part}
 use Rattle.json.specs.Number.{binary64, floatTree}
-use Rattle.json.specs.Reading.{ask, answers, refuses, told}
+use Rattle.json.specs.Reading.{halt, done, Asked, ask, answers, refuses, told}
 use Rattle.json.specs.Span as Text
-use Rattle.json.specs.Tree.{Tree, num, str, arr, obj, Trees, Members, size, sizem, ElementIs, MemberIs, IsContainer, NoNumber, NoString, NoObject, NoContainer}
-use Rattle.json.specs.declared.Refusal.{Refusal}
+use Rattle.json.specs.Tree.{Tree, null, bool, num, str, arr, obj, Trees, Members, size, sizem, ElementIs, MemberIs, IsContainer, NoNumber, NoString, NoObject, NoContainer}
 use Rattle.json.specs.declared.Verdict.{Verdict}
-use Rattle.json.proofs.Reading.{halt≢done}
+use Rattle.json.proofs.Cases.{refusal, verdictIs, verdict-is, answered-exactly}
 use Rattle.binary_json_rules.specs.Areas.{word, high, count, slot, content}
 use Rattle.binary_json_rules.specs.Meaning.{EntryIs, ContainerIs, Means}
 use Rattle.binary_json_rules.specs.Verdict.{verdict}
 use Rattle.binary_json_rules.specs.Leads.{EntryOf, Leads}
 use Rattle.binary_json_rules.specs.Questions.{kindAndSize, element, keyEntryOf, entryOf, memberAt, slotText, slotBytes, entryType, containerAt, stringAt, stringBytes, numberAt}
+use Rattle.binary_json_rules.specs.Questions as Questions
 use Rattle.binary_json_rules.specs.Halving.{digits, turnsOf}
-use Rattle.binary_json_rules.specs.Lookup.{Found, counted, quickLookup, textHalving, keyTurns, plainScan}
+use Rattle.binary_json_rules.specs.Lookup.{Found, entry, absent, Counted, quickLookup, textHalving, keyTurns, plainScan}
 use Rattle.binary_json_rules.specs.Answers.{sizedAs, typedAs}
 use Rattle.binary_json_rules.proofs.Demands as Rules
+use Rattle.binary_json_areas.specs.declared.offsets.TreeOffset.{TreeOffset}
+use Rattle.binary_json_areas.specs.declared.offsets.SlotOffset.{SlotOffset}
 use Rattle.binary_json_answers.specs.Told.{toldSized, toldTree, toldMember, toldType, toldSpan, toldBits, toldScan, toldLookup}
 use Rattle.binary_json_answers.specs.declared.Sized.{Sized}
 use Rattle.binary_json_answers.specs.declared.TreeAt.{TreeAt}
@@ -32,19 +35,197 @@ use Rattle.binary_json_answers.specs.declared.Bits.{Bits}
 use Rattle.binary_json_answers.specs.declared.Scanned.{Scanned}
 use Rattle.binary_json_answers.specs.declared.Looked.{Looked}
 
--- ---- Demand 1: "Bad input is refused with the number and place that document 01 fixes."
+-- ---- the case of an answer, from what it says
 
-pub refused-as-fixed : (doc : List ℕ) (r : Refusal) → told (Verdict.Refused r) ≡ verdict doc → verdict doc ≡ refuses (r .number) (r .place)
-refused-as-fixed doc r e = sym e
+abbrev pub treeOffset : ℕ → TreeOffset
+treeOffset o = record { 0 = o }
+
+abbrev pub slotOffset : ℕ → SlotOffset
+slotOffset o = record { 0 = o }
+
+abbrev sizedBy : ℕ → ℕ → Sized
+sizedBy zero n = Sized.Array n
+sizedBy (suc zero) n = Sized.Object n
+sizedBy (suc (suc k)) n = Sized.Scalar n
+
+abbrev sizedIs : Asked Questions.Sized → Sized
+sizedIs (halt n p u) = Sized.Refused (refusal n p)
+sizedIs (done s u) = sizedBy (s .kind) (s .size)
+
+sized-is : (r : Sized) → sizedIs (toldSized r) ≡ r
+sized-is (Sized.Array n) = refl
+sized-is (Sized.Object n) = refl
+sized-is (Sized.Scalar n) = refl
+sized-is (Sized.Refused r) = refl
+
+abbrev treeIs : Asked ℕ → TreeAt
+treeIs (halt n p u) = TreeAt.Refused (refusal n p)
+treeIs (done o u) = TreeAt.At (treeOffset o)
+
+tree-is : (r : TreeAt) → treeIs (toldTree r) ≡ r
+tree-is (TreeAt.At o) = refl
+tree-is (TreeAt.Refused r) = refl
+
+abbrev memberIs : Asked Questions.MemberAt → MemberAt
+memberIs (halt n p u) = MemberAt.Refused (refusal n p)
+memberIs (done a u) = MemberAt.At (slotOffset (a .slot)) (treeOffset (a .entry))
+
+member-is : (r : MemberAt) → memberIs (toldMember r) ≡ r
+member-is (MemberAt.At s e) = refl
+member-is (MemberAt.Refused r) = refl
+
+abbrev typedBy : ℕ → Typed
+typedBy zero = Typed.False
+typedBy (suc zero) = Typed.True
+typedBy (suc (suc zero)) = Typed.Null
+typedBy (suc (suc (suc zero))) = Typed.String
+typedBy (suc (suc (suc (suc zero)))) = Typed.Number
+typedBy (suc (suc (suc (suc (suc k))))) = Typed.Container
+
+abbrev typedIs : Asked ℕ → Typed
+typedIs (halt n p u) = Typed.Refused (refusal n p)
+typedIs (done n u) = typedBy n
+
+typed-is : (r : Typed) → typedIs (toldType r) ≡ r
+typed-is Typed.False = refl
+typed-is Typed.True = refl
+typed-is Typed.Null = refl
+typed-is Typed.String = refl
+typed-is Typed.Number = refl
+typed-is Typed.Container = refl
+typed-is (Typed.Refused r) = refl
+
+abbrev spanIs : Asked Text.Span → Span
+spanIs (halt n p u) = Span.Refused (refusal n p)
+spanIs (done s u) = Span.At (s .place) (s .len)
+
+span-is : (r : Span) → spanIs (toldSpan r) ≡ r
+span-is (Span.At p n) = refl
+span-is (Span.Refused r) = refl
+
+abbrev bitsIs : Asked ℕ → Bits
+bitsIs (halt n p u) = Bits.Refused (refusal n p)
+bitsIs (done b u) = Bits.Of b
+
+bits-is : (r : Bits) → bitsIs (toldBits r) ≡ r
+bits-is (Bits.Of b) = refl
+bits-is (Bits.Refused r) = refl
+
+abbrev pub scannedBy : Found → Scanned
+scannedBy (entry o) = Scanned.Entry (treeOffset o)
+scannedBy absent = Scanned.Absent
+
+abbrev scannedIs : Asked Found → Scanned
+scannedIs (halt n p u) = Scanned.Refused (refusal n p)
+scannedIs (done f u) = scannedBy f
+
+scanned-is : (r : Scanned) → scannedIs (toldScan r) ≡ r
+scanned-is (Scanned.Entry o) = refl
+scanned-is Scanned.Absent = refl
+scanned-is (Scanned.Refused r) = refl
+
+abbrev pub lookedBy : Found → ℕ → ℕ → Looked
+lookedBy (entry o) first second = Looked.Entry (treeOffset o) first second
+lookedBy absent first second = Looked.Absent first second
+
+abbrev lookedIs : Asked Counted → Looked
+lookedIs (halt n p u) = Looked.Refused (refusal n p)
+lookedIs (done a u) = lookedBy (a .answer) (a .first) (a .second)
+
+looked-is : (r : Looked) → lookedIs (toldLookup r) ≡ r
+looked-is (Looked.Entry o m n) = refl
+looked-is (Looked.Absent m n) = refl
+looked-is (Looked.Refused r) = refl
+
+-- what a tree says to the questions for its container's kind and size, and for its Entry's type
+abbrev pub sizedCase : Tree → Sized
+sizedCase null = Sized.Scalar 1
+sizedCase (bool b) = Sized.Scalar 1
+sizedCase (num s m) = Sized.Scalar 1
+sizedCase (str s) = Sized.Scalar 1
+sizedCase (arr ts) = Sized.Array (size ts)
+sizedCase (obj ms) = Sized.Object (sizem ms)
+
+sized-case : (u : Tree) → sizedIs (answers (sizedAs u)) ≡ sizedCase u
+unfolding sizedAs
+sized-case null = refl
+sized-case (bool b) = refl
+sized-case (num s m) = refl
+sized-case (str s) = refl
+sized-case (arr ts) = refl
+sized-case (obj ms) = refl
+
+abbrev pub typedCase : Tree → Typed
+typedCase null = Typed.Null
+typedCase (bool false) = Typed.False
+typedCase (bool true) = Typed.True
+typedCase (num s m) = Typed.Number
+typedCase (str s) = Typed.String
+typedCase (arr ts) = Typed.Container
+typedCase (obj ms) = Typed.Container
+
+typed-case : (u : Tree) → typedIs (answers (typedAs u)) ≡ typedCase u
+unfolding typedAs
+typed-case null = refl
+typed-case (bool false) = refl
+typed-case (bool true) = refl
+typed-case (num s m) = refl
+typed-case (str s) = refl
+typed-case (arr ts) = refl
+typed-case (obj ms) = refl
+
+-- ---- Demand 1: "Bad input is refused with the number and place that document 01 fixes": the check and each question refuse with
+-- a number and place exactly if their rule does, for all bytes, cursors, indices and keys. A text is empty at a refusal.
+
+pub refused-as-fixed : (doc : List ℕ) (n p : ℕ) (r : Verdict) → told r ≡ verdict doc → (r ≡ Verdict.Refused (refusal n p)) ↔ (verdict doc ≡ refuses n p)
+refused-as-fixed doc n p r e = answered-exactly told verdictIs verdict-is r e (Verdict.Refused (refusal n p))
+
+module _ (doc : List ℕ) (c n p : ℕ) where
+  -- at a Meta
+  pub kind-refused : (r : Sized) → toldSized r ≡ ask (kindAndSize doc c) → (r ≡ Sized.Refused (refusal n p)) ↔ (ask (kindAndSize doc c) ≡ refuses n p)
+  kind-refused r e = answered-exactly toldSized sizedIs sized-is r e (Sized.Refused (refusal n p))
+
+  pub element-refused : (i : ℕ) (r : TreeAt) → toldTree r ≡ ask (element doc c i) → (r ≡ TreeAt.Refused (refusal n p)) ↔ (ask (element doc c i) ≡ refuses n p)
+  element-refused i r e = answered-exactly toldTree treeIs tree-is r e (TreeAt.Refused (refusal n p))
+
+  pub member-refused : (j : ℕ) (r : MemberAt) → toldMember r ≡ ask (memberAt doc c j) → (r ≡ MemberAt.Refused (refusal n p)) ↔ (ask (memberAt doc c j) ≡ refuses n p)
+  member-refused j r e = answered-exactly toldMember memberIs member-is r e (MemberAt.Refused (refusal n p))
+
+  pub quick-lookup-refused : (x : List ℕ) (r : Looked) → toldLookup r ≡ ask (quickLookup doc c x) → (r ≡ Looked.Refused (refusal n p)) ↔ (ask (quickLookup doc c x) ≡ refuses n p)
+  quick-lookup-refused x r e = answered-exactly toldLookup lookedIs looked-is r e (Looked.Refused (refusal n p))
+
+  pub plain-scan-refused : (x : List ℕ) (r : Scanned) → toldScan r ≡ ask (plainScan doc c x) → (r ≡ Scanned.Refused (refusal n p)) ↔ (ask (plainScan doc c x) ≡ refuses n p)
+  plain-scan-refused x r e = answered-exactly toldScan scannedIs scanned-is r e (Scanned.Refused (refusal n p))
+
+  -- at an Entry
+  pub type-refused : (r : Typed) → toldType r ≡ ask (entryType doc c) → (r ≡ Typed.Refused (refusal n p)) ↔ (ask (entryType doc c) ≡ refuses n p)
+  type-refused r e = answered-exactly toldType typedIs typed-is r e (Typed.Refused (refusal n p))
+
+  pub container-refused : (r : TreeAt) → toldTree r ≡ ask (containerAt doc c) → (r ≡ TreeAt.Refused (refusal n p)) ↔ (ask (containerAt doc c) ≡ refuses n p)
+  container-refused r e = answered-exactly toldTree treeIs tree-is r e (TreeAt.Refused (refusal n p))
+
+  pub string-refused : (r : Span) → toldSpan r ≡ ask (stringAt doc c) → (r ≡ Span.Refused (refusal n p)) ↔ (ask (stringAt doc c) ≡ refuses n p)
+  string-refused r e = answered-exactly toldSpan spanIs span-is r e (Span.Refused (refusal n p))
+
+  pub string-text-refused : (bytes : List ℕ) → bytes ≡ stringBytes doc c → ask (stringAt doc c) ≡ refuses n p → bytes ≡ []
+  string-text-refused bytes e h = e ∙ rw h
+
+  pub number-refused : (r : Bits) → toldBits r ≡ ask (numberAt doc c) → (r ≡ Bits.Refused (refusal n p)) ↔ (ask (numberAt doc c) ≡ refuses n p)
+  number-refused r e = answered-exactly toldBits bitsIs bits-is r e (Bits.Refused (refusal n p))
+
+  -- at a slot
+  pub slot-refused : (r : Span) → toldSpan r ≡ ask (slotText doc c) → (r ≡ Span.Refused (refusal n p)) ↔ (ask (slotText doc c) ≡ refuses n p)
+  slot-refused r e = answered-exactly toldSpan spanIs span-is r e (Span.Refused (refusal n p))
+
+  pub slot-text-refused : (bytes : List ℕ) → bytes ≡ slotBytes doc c → ask (slotText doc c) ≡ refuses n p → bytes ≡ []
+  slot-text-refused bytes e h = e ∙ rw h
 
 -- ---- Demand 2: "A document is accepted exactly if it keeps the format's rules." "Each accepted document means one tree."
 
-accepted : (r : Verdict) → told r ≡ answers tt → r ≡ Verdict.Accepted
-accepted Verdict.Accepted e = refl
-accepted (Verdict.Refused r) e = absurd (halt≢done e)
-
 pub accepted-exactly : (doc : List ℕ) (r : Verdict) → told r ≡ verdict doc → (r ≡ Verdict.Accepted) ↔ ((t : Tree) × Means doc t)
-accepted-exactly doc r e = (λ a. Rules.accepted-exactly doc .0 (sym (ap told (sym a) ∙ e)), λ m. accepted r (e ∙ Rules.accepted-exactly doc .1 m))
+accepted-exactly doc r e =
+    let (to, from) = answered-exactly told verdictIs verdict-is r e Verdict.Accepted in
+    (λ a. Rules.accepted-exactly doc .0 (to a), λ m. from (Rules.accepted-exactly doc .1 m))
 
 pub one-tree : (doc : List ℕ) (t u : Tree) → Means doc t → Means doc u → t ≡ u
 one-tree doc t u m n = Rules.one-tree doc t u m n
@@ -52,63 +233,75 @@ one-tree doc t u m n = Rules.one-tree doc t u m n
 -- ---- "Every question put to a node that its root leads to is answered from that tree."
 
 module _ (doc : List ℕ) (t : Tree) (m : Means doc t) (c : ℕ) (l : Leads doc c) where
-  pub kind-and-size : (u : Tree) (r : Sized) → ContainerIs doc u c → toldSized r ≡ ask (kindAndSize doc c) → toldSized r ≡ answers (sizedAs u)
-  kind-and-size u r h e = e ∙ Rules.kind-and-size doc t m c l u h
+  pub kind-and-size : (u : Tree) (r : Sized) → ContainerIs doc u c → toldSized r ≡ ask (kindAndSize doc c) → r ≡ sizedCase u
+  kind-and-size u r h e = sym (sized-is r) ∙ (ap sizedIs (e ∙ Rules.kind-and-size doc t m c l u h) ∙ sized-case u)
 
-  pub element-of-array : (ts : Trees) (i : ℕ) (v : Tree) (r : TreeAt) → ContainerIs doc (arr ts) c → i < size ts → ElementIs ts i v → toldTree r ≡ ask (element doc c i)
-      → (toldTree r ≡ answers (c + 4 + 4 * i)) × EntryIs doc v (c + 4 + 4 * i)
-  element-of-array ts i v r h b x e = let (q, s) = Rules.element-of-array doc t m c l ts i v h b x in (e ∙ q, s)
+  pub element-of-array : (ts : Trees) (i : ℕ) (v : Tree) (r : TreeAt) → ContainerIs doc (arr ts) c → ElementIs ts i v → toldTree r ≡ ask (element doc c i)
+      → (r ≡ TreeAt.At (treeOffset (c + 4 + 4 * i))) × EntryIs doc v (c + 4 + 4 * i)
+  element-of-array ts i v r h x e = let (q, s) = Rules.element-of-array doc t m c l ts i v h x in (sym (tree-is r) ∙ ap treeIs (e ∙ q), s)
 
-  pub element-past-end : (ts : Trees) (i : ℕ) (r : TreeAt) → ContainerIs doc (arr ts) c → size ts ≤ i → toldTree r ≡ ask (element doc c i) → toldTree r ≡ refuses 22 c
-  element-past-end ts i r h b e = e ∙ Rules.element-past-end doc t m c l ts i h b
+  pub element-past-end : (ts : Trees) (i : ℕ) (r : TreeAt) → ContainerIs doc (arr ts) c → size ts ≤ i → toldTree r ≡ ask (element doc c i) → r ≡ TreeAt.Refused (refusal 22 c)
+  element-past-end ts i r h b e = sym (tree-is r) ∙ ap treeIs (e ∙ Rules.element-past-end doc t m c l ts i h b)
 
-  pub element-of-object : (ms : Members) (i : ℕ) (r : TreeAt) → ContainerIs doc (obj ms) c → toldTree r ≡ ask (element doc c i) → toldTree r ≡ refuses 21 c
-  element-of-object ms i r h e = e ∙ Rules.element-of-object doc t m c l ms i h
+  pub element-of-object : (ms : Members) (i : ℕ) (r : TreeAt) → ContainerIs doc (obj ms) c → toldTree r ≡ ask (element doc c i) → r ≡ TreeAt.Refused (refusal 21 c)
+  element-of-object ms i r h e = sym (tree-is r) ∙ ap treeIs (e ∙ Rules.element-of-object doc t m c l ms i h)
 
-  pub element-of-scalar : (u : Tree) (r : TreeAt) → NoContainer u → ContainerIs doc u c → toldTree r ≡ ask (element doc c 0) → (toldTree r ≡ answers (c + 4)) × EntryIs doc u (c + 4)
-  element-of-scalar u r n h e = let (q, s) = Rules.element-of-scalar doc t m c l u n h in (e ∙ q, s)
+  pub element-of-scalar : (u : Tree) (r : TreeAt) → NoContainer u → ContainerIs doc u c → toldTree r ≡ ask (element doc c 0) → (r ≡ TreeAt.At (treeOffset (c + 4))) × EntryIs doc u (c + 4)
+  element-of-scalar u r n h e = let (q, s) = Rules.element-of-scalar doc t m c l u n h in (sym (tree-is r) ∙ ap treeIs (e ∙ q), s)
 
-  pub member-of-object : (ms : Members) (j : ℕ) (x : List ℕ) (v : Tree) (r : MemberAt) (bytes : List ℕ) → ContainerIs doc (obj ms) c → j < sizem ms → MemberIs ms j x v
+  pub element-past-scalar : (u : Tree) (i : ℕ) (r : TreeAt) → NoContainer u → ContainerIs doc u c → 1 ≤ i → toldTree r ≡ ask (element doc c i) → r ≡ TreeAt.Refused (refusal 22 c)
+  element-past-scalar u i r n h b e = sym (tree-is r) ∙ ap treeIs (e ∙ Rules.element-past-scalar doc t m c l u i n h b)
+
+  pub member-of-object : (ms : Members) (j : ℕ) (x : List ℕ) (v : Tree) (r : MemberAt) (bytes : List ℕ) → ContainerIs doc (obj ms) c → MemberIs ms j x v
       → toldMember r ≡ ask (memberAt doc c j) → bytes ≡ slotBytes doc (word doc (keyEntryOf c j))
-      → (toldMember r ≡ answers (record { slot = word doc (keyEntryOf c j); entry = entryOf c (sizem ms) j })) × (bytes ≡ x) × EntryIs doc v (entryOf c (sizem ms) j)
-  member-of-object ms j x v r bytes h b y e w = let (q, k, s) = Rules.member-of-object doc t m c l ms j x v h b y in (e ∙ q, w ∙ k, s)
+      → (r ≡ MemberAt.At (slotOffset (word doc (keyEntryOf c j))) (treeOffset (entryOf c (sizem ms) j))) × (bytes ≡ x) × EntryIs doc v (entryOf c (sizem ms) j)
+  member-of-object ms j x v r bytes h y e w = let (q, k, s) = Rules.member-of-object doc t m c l ms j x v h y in (sym (member-is r) ∙ ap memberIs (e ∙ q), w ∙ k, s)
 
-  pub member-past-end : (ms : Members) (j : ℕ) (r : MemberAt) → ContainerIs doc (obj ms) c → sizem ms ≤ j → toldMember r ≡ ask (memberAt doc c j) → toldMember r ≡ refuses 22 c
-  member-past-end ms j r h b e = e ∙ Rules.member-past-end doc t m c l ms j h b
+  pub member-past-end : (ms : Members) (j : ℕ) (r : MemberAt) → ContainerIs doc (obj ms) c → sizem ms ≤ j → toldMember r ≡ ask (memberAt doc c j) → r ≡ MemberAt.Refused (refusal 22 c)
+  member-past-end ms j r h b e = sym (member-is r) ∙ ap memberIs (e ∙ Rules.member-past-end doc t m c l ms j h b)
 
-  pub member-of-other : (u : Tree) (j : ℕ) (r : MemberAt) → NoObject u → ContainerIs doc u c → toldMember r ≡ ask (memberAt doc c j) → toldMember r ≡ refuses 21 c
-  member-of-other u j r n h e = e ∙ Rules.member-of-other doc t m c l u j n h
+  pub member-of-other : (u : Tree) (j : ℕ) (r : MemberAt) → NoObject u → ContainerIs doc u c → toldMember r ≡ ask (memberAt doc c j) → r ≡ MemberAt.Refused (refusal 21 c)
+  member-of-other u j r n h e = sym (member-is r) ∙ ap memberIs (e ∙ Rules.member-of-other doc t m c l u j n h)
+
+  pub quick-lookup-of-other : (u : Tree) (x : List ℕ) (r : Looked) → NoObject u → ContainerIs doc u c → toldLookup r ≡ ask (quickLookup doc c x) → r ≡ Looked.Refused (refusal 21 c)
+  quick-lookup-of-other u x r n h e = sym (looked-is r) ∙ ap lookedIs (e ∙ Rules.quick-lookup-of-other doc t m c l u x n h)
+
+  pub plain-scan-of-other : (u : Tree) (x : List ℕ) (r : Scanned) → NoObject u → ContainerIs doc u c → toldScan r ≡ ask (plainScan doc c x) → r ≡ Scanned.Refused (refusal 21 c)
+  plain-scan-of-other u x r n h e = sym (scanned-is r) ∙ ap scannedIs (e ∙ Rules.plain-scan-of-other doc t m c l u x n h)
 
   module _ (a : ℕ) (o : EntryOf doc c a) where
-    pub entry-type : (v : Tree) (r : Typed) → EntryIs doc v a → toldType r ≡ ask (entryType doc a) → toldType r ≡ answers (typedAs v)
-    entry-type v r h e = e ∙ Rules.entry-type doc t m c l a o v h
+    pub entry-type : (v : Tree) (r : Typed) → EntryIs doc v a → toldType r ≡ ask (entryType doc a) → r ≡ typedCase v
+    entry-type v r h e = sym (typed-is r) ∙ (ap typedIs (e ∙ Rules.entry-type doc t m c l a o v h) ∙ typed-case v)
 
     pub container-of-entry : (v : Tree) (r : TreeAt) → IsContainer v → EntryIs doc v a → toldTree r ≡ ask (containerAt doc a)
-        → (toldTree r ≡ answers (high doc a)) × Leads doc (high doc a) × ContainerIs doc v (high doc a)
-    container-of-entry v r n h e = let (q, s, w) = Rules.container-of-entry doc t m c l a o v n h in (e ∙ q, s, w)
+        → (r ≡ TreeAt.At (treeOffset (high doc a))) × Leads doc (high doc a) × ContainerIs doc v (high doc a)
+    container-of-entry v r n h e = let (q, s, w) = Rules.container-of-entry doc t m c l a o v n h in (sym (tree-is r) ∙ ap treeIs (e ∙ q), s, w)
 
-    pub container-of-scalar : (v : Tree) (r : TreeAt) → NoContainer v → EntryIs doc v a → toldTree r ≡ ask (containerAt doc a) → toldTree r ≡ refuses 21 a
-    container-of-scalar v r n h e = e ∙ Rules.container-of-scalar doc t m c l a o v n h
+    pub container-of-scalar : (v : Tree) (r : TreeAt) → NoContainer v → EntryIs doc v a → toldTree r ≡ ask (containerAt doc a) → r ≡ TreeAt.Refused (refusal 21 a)
+    container-of-scalar v r n h e = sym (tree-is r) ∙ ap treeIs (e ∙ Rules.container-of-scalar doc t m c l a o v n h)
 
-    pub string-of-entry : (s : List ℕ) (r : Span) → EntryIs doc (str s) a → toldSpan r ≡ ask (stringAt doc a) → (p : Text.Span) × (toldSpan r ≡ answers p) × (part doc (p .place) (p .len) ≡ s)
-    string-of-entry s r h e = let (p, q, w) = Rules.string-of-entry doc t m c l a o s h in (p, e ∙ q, w)
+    pub string-of-entry : (s : List ℕ) (r : Span) → EntryIs doc (str s) a → toldSpan r ≡ ask (stringAt doc a) → (p : Text.Span) × (r ≡ Span.At (p .place) (p .len)) × (part doc (p .place) (p .len) ≡ s)
+    string-of-entry s r h e = let (p, q, w) = Rules.string-of-entry doc t m c l a o s h in (p, sym (span-is r) ∙ ap spanIs (e ∙ q), w)
 
     pub text-of-entry : (s bytes : List ℕ) → EntryIs doc (str s) a → bytes ≡ stringBytes doc a → bytes ≡ s
     text-of-entry s bytes h e = e ∙ Rules.text-of-entry doc t m c l a o s h
 
     pub string-of-other : (v : Tree) (r : Span) (bytes : List ℕ) → NoString v → EntryIs doc v a → toldSpan r ≡ ask (stringAt doc a) → bytes ≡ stringBytes doc a
-        → (toldSpan r ≡ refuses 21 a) × (bytes ≡ [])
-    string-of-other v r bytes n h e w = let (q, k) = Rules.string-of-other doc t m c l a o v n h in (e ∙ q, w ∙ k)
+        → (r ≡ Span.Refused (refusal 21 a)) × (bytes ≡ [])
+    string-of-other v r bytes n h e w = let (q, k) = Rules.string-of-other doc t m c l a o v n h in (sym (span-is r) ∙ ap spanIs (e ∙ q), w ∙ k)
 
-    pub number-of-entry : (s : Bool) (n : ℕ) (r : Bits) → EntryIs doc (num s n) a → toldBits r ≡ ask (numberAt doc a) → (bits : ℕ) × (toldBits r ≡ answers bits) × (floatTree binary64 bits ≡ num s n)
-    number-of-entry s n r h e = let (b, q, w) = Rules.number-of-entry doc t m c l a o s n h in (b, e ∙ q, w)
+    pub number-of-entry : (s : Bool) (n : ℕ) (r : Bits) → EntryIs doc (num s n) a → toldBits r ≡ ask (numberAt doc a) → (bits : ℕ) × (r ≡ Bits.Of bits) × (floatTree binary64 bits ≡ num s n)
+    number-of-entry s n r h e = let (b, q, w) = Rules.number-of-entry doc t m c l a o s n h in (b, sym (bits-is r) ∙ ap bitsIs (e ∙ q), w)
 
-    pub number-of-other : (v : Tree) (r : Bits) → NoNumber v → EntryIs doc v a → toldBits r ≡ ask (numberAt doc a) → toldBits r ≡ refuses 21 a
-    number-of-other v r n h e = e ∙ Rules.number-of-other doc t m c l a o v n h
+    pub number-of-other : (v : Tree) (r : Bits) → NoNumber v → EntryIs doc v a → toldBits r ≡ ask (numberAt doc a) → r ≡ Bits.Refused (refusal 21 a)
+    number-of-other v r n h e = sym (bits-is r) ∙ ap bitsIs (e ∙ Rules.number-of-other doc t m c l a o v n h)
 
 pub text-of-slot : (doc : List ℕ) (t : Tree) (m : Means doc t) (k : ℕ) (r : Span) → k < count doc → toldSpan r ≡ ask (slotText doc (slot doc k))
-    → (p : Text.Span) × (toldSpan r ≡ answers p) × (part doc (p .place) (p .len) ≡ content doc k)
-text-of-slot doc t m k r b e = let (p, q, w) = Rules.text-of-slot doc t m k b in (p, e ∙ q, w)
+    → (p : Text.Span) × (r ≡ Span.At (p .place) (p .len)) × (part doc (p .place) (p .len) ≡ content doc k)
+text-of-slot doc t m k r b e = let (p, q, w) = Rules.text-of-slot doc t m k b in (p, sym (span-is r) ∙ ap spanIs (e ∙ q), w)
+
+pub bytes-of-slot : (doc : List ℕ) (t : Tree) (m : Means doc t) (k : ℕ) (bytes : List ℕ) → k < count doc → bytes ≡ slotBytes doc (slot doc k) → bytes ≡ content doc k
+bytes-of-slot doc t m k bytes b e = e ∙ Rules.bytes-of-slot doc t m k b
 
 -- ---- Demand 3: "quick lookup and plain scan give the same answer: the Entry of the member with exactly that key, whose value
 -- is the one the tree holds under it, or absent exactly when no member has it. The quick lookup's two counts equal 01's
@@ -117,10 +310,10 @@ text-of-slot doc t m k r b e = let (p, q, w) = Rules.text-of-slot doc t m k b in
 pub record LookedUp (doc : List ℕ) (t : Tree) (m : Means doc t) (c : ℕ) (ms : Members) (x : List ℕ) (quick : Looked) (scan : Scanned) : Type 0 where
   pub answer : Found
   pub right : Rules.Answered doc t m c ms x answer
-  pub by-scan : toldScan scan ≡ answers answer
+  pub by-scan : scan ≡ scannedBy answer
   pub first : ℕ
   pub second : ℕ
-  pub by-halving : toldLookup quick ≡ answers (counted answer first second)
+  pub by-halving : quick ≡ lookedBy answer first second
   pub first-is : first ≡ turnsOf (textHalving doc x)
   pub second-is : second ≡ keyTurns doc c (sizem ms) (textHalving doc x)
   pub few : first + second ≤ digits (count doc) + digits (sizem ms)
@@ -132,10 +325,10 @@ lookups-agree doc t m c ms x quick scan l h p q =
     record {
       answer = r .answer;
       right = r .right;
-      by-scan = q ∙ r .by-scan;
+      by-scan = sym (scanned-is scan) ∙ ap scannedIs (q ∙ r .by-scan);
       first = r .first;
       second = r .second;
-      by-halving = p ∙ r .by-halving;
+      by-halving = sym (looked-is quick) ∙ ap lookedIs (p ∙ r .by-halving);
       first-is = r .first-is;
       second-is = r .second-is;
       few = r .few;

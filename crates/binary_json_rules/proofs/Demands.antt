@@ -4,7 +4,7 @@ use mathlib.Core.Path.{_≡_, refl, sym, ap, _∙_}
 use mathlib.Core.Logic.{_↔_}
 use mathlib.Core.Bool.{Bool}
 use mathlib.Core.List.{List, []}
-use Prim.Native.Nat.{ℕ, _+_, _*_, _≤_, _<_}
+use Prim.Native.Nat.{ℕ, _+_, _*_, _^_, _≤_, _<_}
 use native.Mathlib.Omega.{arith}
 use Rattle.json.specs.Reading.{ask, answers, refuses}
 use Rattle.json.specs.Bytes.{number, part}
@@ -13,6 +13,7 @@ use Rattle.json.specs.Span.{Span}
 use Rattle.json.specs.Texts.{compareNumbers}
 use Rattle.json.specs.Tree.{Tree, num, str, arr, obj, Trees, Members, size, sizem, ElementIs, MemberIs, Lacks, IsContainer, NoNumber, NoString, NoObject, NoContainer, Subtree}
 use Rattle.json.proofs.Reading.{stops}
+use Rattle.json.proofs.Tree.{member-below}
 use Rattle.binary_json_rules.specs.Areas.{word, high, count, slot, content}
 use Rattle.binary_json_rules.specs.Meaning.{EntryIs, ContainerIs, Means}
 use Rattle.binary_json_rules.specs.Verdict.{verdict}
@@ -28,6 +29,7 @@ use Rattle.binary_json_rules.proofs.Trees.{means-tree}
 use Rattle.binary_json_rules.proofs.Nodes as Nodes
 use Rattle.binary_json_rules.proofs.Answers as Answers
 use Rattle.binary_json_rules.proofs.Halves.{halving-turns, never-broken}
+use Rattle.binary_json_rules.proofs.Halves as Halves
 use Rattle.binary_json_rules.proofs.Lookups.{has, lacks}
 use Rattle.binary_json_rules.proofs.Lookups as Lookups
 
@@ -35,6 +37,15 @@ use Rattle.binary_json_rules.proofs.Lookups as Lookups
 
 pub keys-never-broken : (doc : List ℕ) (c n v : ℕ) → keys doc c n v ≡ broken → ⊥
 keys-never-broken doc c n v = never-broken (keyItem doc c v) n (λ j. (compareNumbers (word doc (keyEntryOf c j)) v, refl))
+
+-- ---- What the binary digits of a number are, which demand 3 counts: a number of d of them lies below 2 ^ d, and, unless it is
+-- zero, not below half of that.
+
+pub below-digits : (m : ℕ) → m < 2 ^ digits m
+below-digits m = Halves.below-digits m
+
+pub digits-exact : (m : ℕ) → 0 < m → 2 ^ digits m ≤ 2 * m
+digits-exact m p = Halves.digits-exact m p
 
 -- ---- Demand 2: "A document is accepted exactly if it keeps the format's rules as condensed in 01."
 
@@ -75,9 +86,9 @@ module _ (doc : List ℕ) (t : Tree) (m : Means doc t) where
     kind-and-size u h = Answers.kind-answer doc t m c u h aligned
 
     -- element i of an array: its Entry stands for value i; past the end 22; of an object 21
-    pub element-of-array : (ts : Trees) (i : ℕ) (v : Tree) → ContainerIs doc (arr ts) c → i < size ts → ElementIs ts i v
+    pub element-of-array : (ts : Trees) (i : ℕ) (v : Tree) → ContainerIs doc (arr ts) c → ElementIs ts i v
         → (ask (element doc c i) ≡ answers (c + 4 + 4 * i)) × EntryIs doc v (c + 4 + 4 * i)
-    element-of-array ts i v h b x = (Answers.element-answer doc t m c i ts h aligned b, Nodes.element-is doc ts i (c + 4) v (h .1) x)
+    element-of-array ts i v h x = (Answers.element-answer doc t m c i ts h aligned (Nodes.element-below ts i v x), Nodes.element-is doc ts i (c + 4) v (h .1) x)
 
     pub element-past-end : (ts : Trees) (i : ℕ) → ContainerIs doc (arr ts) c → size ts ≤ i → ask (element doc c i) ≡ refuses 22 c
     element-past-end ts i h b = Answers.element-past doc t m c i ts h aligned b
@@ -93,12 +104,12 @@ module _ (doc : List ℕ) (t : Tree) (m : Means doc t) where
     element-past-scalar u i n h b = Answers.scalar-past doc t m c i u n h aligned b
 
     -- member j of an object: its slot's text is the key, its Entry stands for the value; past the end 22; of anything else 21
-    pub member-of-object : (ms : Members) (j : ℕ) (x : List ℕ) (v : Tree) → ContainerIs doc (obj ms) c → j < sizem ms → MemberIs ms j x v
+    pub member-of-object : (ms : Members) (j : ℕ) (x : List ℕ) (v : Tree) → ContainerIs doc (obj ms) c → MemberIs ms j x v
         → (ask (memberAt doc c j) ≡ answers (record { slot = word doc (keyEntryOf c j); entry = entryOf c (sizem ms) j }))
         × (slotBytes doc (word doc (keyEntryOf c j)) ≡ x) × EntryIs doc v (entryOf c (sizem ms) j)
-    member-of-object ms j x v h b y =
+    member-of-object ms j x v h y =
         let (k, is, e) = Answers.key-slot doc t m ms j 0 (c + 4) (c + 4 + 4 * sizem ms) x v (h .1) y in (
-          Answers.member-answer doc t m c j ms x v h aligned b y,
+          Answers.member-answer doc t m c j ms x v h aligned (member-below ms j x v y) y,
           Answers.slot-bytes doc t m _ k is ∙ sym e,
           Nodes.member-is doc ms j 0 (c + 4) _ x v (h .1) y,
         )
@@ -160,6 +171,9 @@ module _ (doc : List ℕ) (t : Tree) (m : Means doc t) where
 
   pub text-of-slot : (k : ℕ) → k < count doc → (p : Span) × (ask (slotText doc (slot doc k)) ≡ answers p) × (part doc (p .place) (p .len) ≡ content doc k)
   text-of-slot k b = (Answers.spanOf doc t m k, Answers.slot-answer doc t m (slot doc k) k (record { counted = b; place = refl }), Answers.span-content doc t m k)
+
+  pub bytes-of-slot : (k : ℕ) → k < count doc → slotBytes doc (slot doc k) ≡ content doc k
+  bytes-of-slot k b = Answers.slot-bytes doc t m (slot doc k) k (record { counted = b; place = refl })
 
   -- ---- Demand 3: "For every accepted BinaryJson document, every object its root leads to and every key, quick lookup and
   -- plain scan give the same answer: the Entry of the member with exactly that key, whose value is the one the tree holds

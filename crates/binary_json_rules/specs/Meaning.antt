@@ -65,7 +65,8 @@ abbrev mutual
 
 -- ---- what a container stands for
 
--- The container at c stands for a tree: an array, an object, or a scalar in a container of kind 2 with one Entry.
+-- The container at c stands for a tree: an array, an object, or a scalar in a container of kind 2 with one Entry. An object's
+-- first KeyEntry has to be above 0, which is below every slot's offset.
 abbrev pub ScalarIs : List ℕ → Tree → ℕ → Type 0
 ScalarIs doc t c = Meta doc c kScalar 1 1 × EntryIs doc t (c + 4)
 
@@ -109,7 +110,7 @@ RootFills doc (obj ms) e = FillsMembers doc ms (8 + 4 * sizem ms) (8 + 8 * sizem
 
 -- ---- the string index
 
--- slot k: its low five bits are 0, its text is not empty of bytes, lies in the document and ends in a closing zero
+-- slot k: its low five bits are 0, its text has at least one byte, the closing zero, lies in the document and ends in a closing zero
 pub record SlotGood (doc : List ℕ) (k : ℕ) : Type 0 where
   pub clear : low doc (slot doc k) ≡ 0
   pub forward : text doc k < text doc (suc k)

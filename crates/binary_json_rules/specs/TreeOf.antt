@@ -46,5 +46,6 @@ unfoldable pub containerTree : ℕ → List ℕ → ℕ → Tree
 containerTree zero doc o = null
 containerTree (suc levels) doc o = containerTreeBy doc (containerTree levels doc) o (high doc o) (kindOf (low doc o))
 
+-- one level more than values nest: a scalar, of depth 0, stands in a container of kind 2
 unfoldable pub treeOf : List ℕ → Tree
 treeOf doc = containerTree (suc deepest) doc 4

@@ -1,6 +1,6 @@
 -- The verdict on a BinaryJson document: document 01, section "Numbers of refusal", first table, in the order that stands
 -- below it: 1 to 4; slots in turn, 5 before 6; 7; then containers from the root: 12, 8, all its KeyEntries, its Entries in
--- turn, each child finished before the next Entry; 13 last. Each line `need TEST NUMBER PLACE` is one rule of the table.
+-- turn, each child finished before the next Entry; 13 last. Each `need` or `refuse` is one test of a rule, with its number and place.
 use Prim.Native.Nat.{ℕ, zero, suc, _+_, _-_, _*_, _%_}
 use mathlib.Core.Bool.{Bool, true}
 use mathlib.Core.List.{List}

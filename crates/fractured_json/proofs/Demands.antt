@@ -10,8 +10,8 @@ use Rattle.json.specs.Bytes.{Bytes, part}
 use Rattle.json.specs.Reading.{Outcome, halt, done, Asked, ask, answers, refuses, told}
 use Rattle.json.specs.Span.{Span}
 use Rattle.json.specs.Tree.{Tree, null, bool, num, str, arr, obj, Trees, Members, size, sizem, ElementIs, MemberIs, Lacks, NoNumber, NoString, NoArray, NoObject}
-use Rattle.json.specs.declared.Refusal.{Refusal}
 use Rattle.json.specs.declared.Verdict.{Verdict}
+use Rattle.json.proofs.Cases.{refusal, verdictIs, verdict-is, answered-exactly}
 use Rattle.json.proofs.Reading.{halt≢done}
 use Rattle.fractured_json_rules.specs.Meaning.{noKey, Keys, Means}
 use Rattle.fractured_json_rules.specs.Verdict.{verdict}
@@ -33,17 +33,6 @@ use Rattle.fractured_json_answers.specs.declared.Member.{Member}
 use Rattle.fractured_json_answers.specs.declared.Found.{Found}
 
 -- ---- the case of an answer, from what it says
-
-abbrev refusal : ℕ → ℕ → Refusal
-refusal n p = record { number = n; place = p }
-
-abbrev verdictIs : Asked (Unit {0}) → Verdict
-verdictIs (halt n p u) = Verdict.Refused (refusal n p)
-verdictIs (done a u) = Verdict.Accepted
-
-verdict-is : (r : Verdict) → verdictIs (told r) ≡ r
-verdict-is Verdict.Accepted = refl
-verdict-is (Verdict.Refused r) = refl
 
 abbrev placeIs : Asked ℕ → Place
 placeIs (halt n p u) = Place.Refused (refusal n p)
@@ -126,12 +115,6 @@ kind-case (num s m) = refl
 kind-case (str t) = refl
 kind-case (obj ms) = refl
 kind-case (arr ts) = refl
-
--- An answer r whose contract is `says r ≡ q` is the case a exactly if the rule q says what a says. For a refusal a: the code
--- refuses with a number and place exactly if the rule does.
-answered-exactly : {R A : Type 0} (says : R → Asked A) (back : Asked A → R) → ((r : R) → back (says r) ≡ r) → {q : Asked A} (r : R) → says r ≡ q → (a : R)
-    → (r ≡ a) ↔ (q ≡ says a)
-answered-exactly says back same r e a = (λ b. sym e ∙ ap says b, λ b. sym (same r) ∙ (ap back (e ∙ b) ∙ same a))
 
 -- ---- Demand 2: `check` accepts exactly the documents that keep the format's rules, with room for their keys in the table lent.
 
