@@ -8,7 +8,7 @@ use lib.ListN.{length}
 use mir.Syntax.{w64}
 use mir.Val.{Fits}
 use native.Mathlib.Omega.{arith}
-use Rattle.json.specs.Reading.{Outcome, halt, done, Reading, ask, answer, follow, _>>=_}
+use Rattle.json.specs.Reading.{Outcome, halt, done, Reading, ask, follow, _>>=_}
 use Rattle.json.proofs.Reading.{then, stops}
 use Rattle.json.specs.declared.Refusal.{Refusal}
 use Rattle.fractured_json_rules.specs.Verdict.{inTurn, member, value}

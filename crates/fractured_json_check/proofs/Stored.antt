@@ -104,9 +104,6 @@ module _ (words doc : List ℕ) where
   sim-carry (halt n p u) ks t r = (refl, refl, r)
   sim-carry (done a u) ks t r = (refl, r)
 
-  sim-need : (b : Bool) (n p : ℕ) → Sim (need b n p) (need b n p)
-  sim-need b n p ks t r = rw (carry-need b n p ks, carry-need b n p t) (sim-carry (need b n p tt) ks t r)
-
   alike-by : {A : Type 0} {r x : Outcome Keys A} {q y : Outcome Table A} → r ≡ x → q ≡ y → Alike x y → Alike r q
   alike-by e f h = rw (e, f) h
 

@@ -17,7 +17,6 @@ use Rattle.json.specs.Number.{finite}
 use Rattle.json.specs.Reading.{Outcome, ask, answers, refuses, _>>=_}
 use Rattle.json.proofs.Bytes.{number-small}
 use Rattle.json.proofs.Reading.{then, stops, pass, fail}
-use Rattle.json.specs.declared.Refusal.{Refusal}
 use Rattle.fractured_json_rules.specs.ByteTables.{one, two, four, eight, tiny, behind, Form, fNull, fBool, fInt, fFloat, fTiny, fString, fObject, fArray, fReserved, formOf}
 use Rattle.fractured_json_rules.specs.Verdict.{byteAt, payload, counted}
 use Rattle.fractured_json_rules.specs.Verdict as Rules

@@ -1,17 +1,17 @@
 -- The walk over a value as the code makes it is the rules' walk, whatever reads the keys and whatever is kept. The laws at the
 -- end serve the check's walk and the questions' walk alike.
 use mathlib.Core.Path.{_≡_, refl, sym, ap, _∙_}
-use mathlib.Core.Bool.{Bool, true, false, not}
-use mathlib.Core.List.{List, [], _∷_}
+use mathlib.Core.Bool.{Bool, true, false}
+use mathlib.Core.List.{List}
 use Prim.Native.Nat.{ℕ, zero, suc, _+_, _-_, _≤_, _<_}
 use native.Mathlib.Omega.{arith}
-use lib.Dec.{T, leb, ltb, ltb→lt, nltb→le}
-use lib.ListN.{length, getD}
+use lib.Dec.{leb}
+use lib.ListN.{length}
 use Rattle.json.specs.Choose.{choose}
 use Rattle.json.specs.Number.{Float, binary32, binary64, finite}
 use Rattle.json.specs.Reading.{Outcome, halt, done, Reading, ask, answers, refuses, answer, follow, _>>=_, need}
 use Rattle.json.proofs.Reading.{then, stops, assoc}
-use Rattle.fractured_json_rules.specs.ByteTables.{Width, one, two, four, eight, bytes, Len, tiny, behind, Form, fNull, fBool, fInt, fFloat, fTiny, fString, fObject, fArray, fReserved, firstForms, formOf}
+use Rattle.fractured_json_rules.specs.ByteTables.{Width, one, two, four, eight, bytes, Len, tiny, behind, Form, fNull, fBool, fInt, fFloat, fTiny, fString, fObject, fArray, fReserved, formOf}
 use Rattle.fractured_json_rules.specs.Meaning.{behindLength}
 use Rattle.fractured_json_rules.specs.Verdict.{byteAt, payload, lengthAt, Counted, counted, inTurn, member, valueBy, value}
 use Rattle.fractured_json_values.specs.Heads.{widthIn, tinyIn, headOf}
