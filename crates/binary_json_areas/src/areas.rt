@@ -1,16 +1,13 @@
 // Where the areas of a document stand, and the words in them. Words are read here and nowhere else.
 use json::Refusal;
+use json::limits::LEAST_BINARY;
+use json::limits::LONGEST;
 use word::Fields;
 ghost use mathlib.Core.Path.{_≡_};
 ghost use Prim.Native.Nat.{_+_, _*_, _^_, _≤_, _<_};
 ghost use lib.ListN.{length};
 ghost use Rattle.binary_json_rules.specs.Areas.{word, low, high};
 ghost use Rattle.binary_json_areas.specs.Laid.{Indexed, Headed};
-
-// The least and the greatest length of a document, in bytes.
-const LEAST: usize = 12;
-
-const LONGEST: usize = 65536;
 
 // The word at a place.
 pub fn word_at(doc: &[u8], at: usize) -> usize
@@ -39,7 +36,7 @@ fn read_index(doc: &[u8]) -> Index
     ensures { λ r. ⌜ Indexed (now (doc .entry)) r ⌝ }
 {
     let len = doc.len();
-    if len < LEAST {
+    if len < LEAST_BINARY {
         return Index::Refused(Refusal {
             number: 1,
             place: len,

@@ -6,6 +6,7 @@ use binary_json_areas::offsets::NumberOffset;
 use binary_json_areas::offsets::SlotOffset;
 use json::Refusal;
 use json::Verdict;
+use json::limits::DEEPEST;
 ghost use mathlib.Core.Path.{_≡_};
 ghost use Prim.Native.Nat.{_+_, _*_, _^_, _≤_, _<_};
 ghost use Rattle.json.specs.Reading.{told, ask};
@@ -13,9 +14,6 @@ ghost use Rattle.binary_json_rules.specs.Areas.{low, high, kindOf};
 ghost use Rattle.binary_json_rules.specs.Verdict.{keyEntries, entry, container, scalar, rootBy};
 ghost use Rattle.binary_json_areas.specs.Laid.{Laid};
 ghost use Rattle.binary_json_check.specs.Walks.{toldWalk, Stepped, Opened};
-
-// How deep containers may be nested; the root container is 1.
-const LEVELS: usize = 32;
 
 // Rule 11: n KeyEntries from a place on, each a slot's offset and above the one before.
 fn key_entries(doc: &[u8], a: Areas, first: usize, n: usize) -> Verdict
@@ -267,5 +265,5 @@ pub(crate) fn walk_root(doc: &[u8], a: Areas) -> Walk
     if kind == 2 {
         return walk_scalar(doc, a, n);
     }
-    walk_container(doc, a, LEVELS, 4)
+    walk_container(doc, a, DEEPEST, 4)
 }

@@ -2,7 +2,7 @@
 // for links that they cannot use; a document with more keys than links is checked by scanning.
 use crate::walk::Walk;
 use crate::walk::contents;
-use fractured_json_values::limits::DEEPEST;
+use json::limits::DEEPEST;
 ghost use mathlib.Core.Path.{_≡_};
 ghost use Prim.Native.Nat.{_^_, _<_};
 ghost use lib.ListN.{length};

@@ -1,10 +1,10 @@
 // The first member of an object by its key.
+use crate::skip::INNER;
 use crate::skip::KeyText;
 use crate::skip::read_key;
 use crate::skip::skip;
 use fractured_json_answers::Found;
 use fractured_json_answers::Place;
-use fractured_json_values::limits::INNER;
 use fractured_json_values::texts::same;
 use fractured_json_values::texts::text_of;
 use json::Refusal;

@@ -1,6 +1,7 @@
 // The questions that go by the key table: where a value ends, an element, a member, and the first member by its key. Each is right
 // for all bytes, cursors, key tables and counts, and reads only what it needs, in the order of the rules.
 use crate::lookup::find;
+use crate::skip::INNER;
 use crate::skip::KeyText;
 use crate::skip::read_key;
 use crate::skip::skip;
@@ -10,11 +11,10 @@ use fractured_json_answers::Member;
 use fractured_json_answers::Place;
 use fractured_json_scalars::enter::open_question;
 use fractured_json_scalars::enter::wanted;
-use fractured_json_values::limits::DEEPEST;
-use fractured_json_values::limits::INNER;
 use fractured_json_values::values::Counted;
 use json::Refusal;
 use json::Verdict;
+use json::limits::DEEPEST;
 ghost use mathlib.Core.Path.{_≡_};
 ghost use Rattle.json.specs.Reading.{ask};
 ghost use Rattle.fractured_json_rules.specs.Questions.{endOf, elementFrom, elementAt, memberFrom, memberAt, firstMember};

@@ -8,6 +8,7 @@ use fractured_json_values::values::Counted;
 use fractured_json_values::values::Open;
 use fractured_json_values::values::open_at;
 use json::Refusal;
+use json::limits::DEEPEST;
 ghost use mathlib.Core.Path.{_≡_};
 ghost use Prim.Native.Nat.{_≤_};
 ghost use lib.ListN.{length};
@@ -17,6 +18,9 @@ ghost use Rattle.fractured_json_rules.specs.Questions.{backKey, readKey, passKe
 ghost use Rattle.fractured_json_values.specs.Opened.{entry};
 ghost use Rattle.fractured_json_containers.specs.Asked.{numberedKey, toldKey};
 ghost use Rattle.fractured_json_answers.specs.Told.{toldPlace};
+
+// The levels left for the values in a container at the cursor.
+pub(crate) const INNER: usize = DEEPEST - 1;
 
 // A key: where its text stands, how long that is, and where the key ends.
 pub enum KeyText {

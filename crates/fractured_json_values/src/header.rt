@@ -1,8 +1,8 @@
 // Rules 31 to 34, which the check and every question apply first.
-use crate::limits::LEAST;
-use crate::limits::LONGEST;
 use json::Refusal;
 use json::Verdict;
+use json::limits::LEAST_FRACTURED;
+use json::limits::LONGEST;
 ghost use mathlib.Core.Path.{_≡_};
 ghost use Rattle.json.specs.Reading.{ask, refuses, told};
 ghost use Rattle.fractured_json_rules.specs.Verdict.{header};
@@ -17,7 +17,7 @@ pub fn read_header(doc: &[u8]) -> Verdict
     ensures { λ r. ⌜ told r ≡ ask (header (now (doc .entry))) ⌝ }
 {
     let len = doc.len();
-    if len < LEAST {
+    if len < LEAST_FRACTURED {
         return refuse(31, len);
     }
     if LONGEST < len {

@@ -1,6 +1,6 @@
 // Texts of the document, and the words and room of a key table.
-use crate::limits::MOST_KEYS;
 use json::Order;
+use json::limits::MOST_KEYS;
 ghost use mathlib.Core.Path.{_≡_};
 ghost use Prim.Native.Nat.{_^_, _<_};
 ghost use lib.ListN.{length, getD};

@@ -3,7 +3,7 @@ use mathlib.Core.Path.{_≡_, refl, sym, _∙_, ap}
 use mathlib.Core.Bool.{Bool, true, false}
 use mathlib.Core.List.{List}
 use mathlib.Core.Option.{some, none}
-use Prim.Native.Nat.{ℕ, _/_, _<_, _≤_}
+use Prim.Native.Nat.{ℕ, _*_, _/_, _<_, _≤_}
 use native.Mathlib.Omega.{arith}
 use borrow.Author.Needs.{needs}
 use borrow.Author.Tests.{lt-ltb, le-ltb, ne-eqb}
@@ -11,6 +11,7 @@ use lib.Dec.{eqb}
 use lib.ListN.{length, getD, take, List·getD-eq-default}
 use lib.Seq.{length-take-le}
 use Rattle.json.specs.Choose.{choose}
+use Rattle.json.specs.Limits.{longestLine, benchKeys}
 use Rattle.json.specs.Reading.{Outcome, halt, done, told}
 use Rattle.json.specs.declared.Verdict.{Verdict}
 use Rattle.binary_json_rules.specs.Verdict as Binary
@@ -51,17 +52,17 @@ verdict-kept : (words : List ℕ) (q : Outcome Keys (Unit {0})) → checkedBy wo
 verdict-kept words (halt number place keys) = refl
 verdict-kept words (done u keys) = refl
 
-room-is : (words : List ℕ) → 8_192 ≡ length words → roomOf words ≡ 4_096
+room-is : (words : List ℕ) → 2 * benchKeys ≡ length words → roomOf words ≡ benchKeys
 unfolding roomOf
 room-is words l = rw (sym l)
 
-pub with-room : (doc words after : List ℕ) (c : Checked) → toldChecked c after ≡ checked doc words → 8_192 ≡ length words
-    → told (c .verdict) ≡ verdictOf (Fractured.verdict 4_096 doc)
+pub with-room : (doc words after : List ℕ) (c : Checked) → toldChecked c after ≡ checked doc words → 2 * benchKeys ≡ length words
+    → told (c .verdict) ≡ verdictOf (Fractured.verdict benchKeys doc)
 with-room doc words after c e l =
     ap (λ k. k .verdict) e ∙ verdict-kept words (Fractured.verdict (roomOf words) doc) ∙ rw (room-is words l)
 
 module _ (doc : List ℕ) (b : Bool) (f : b ≡ isFractured doc) (v : Verdict) where
-  pub as-fractured : b ≡ true → told v ≡ verdictOf (Fractured.verdict 4_096 doc) → Frame.fractured (told v) ≡ frameOf doc
+  pub as-fractured : b ≡ true → told v ≡ verdictOf (Fractured.verdict benchKeys doc) → Frame.fractured (told v) ≡ frameOf doc
   unfolding frameOf choose
   as-fractured t e = rw (sym f, t, e)
 
@@ -72,18 +73,18 @@ module _ (doc : List ℕ) (b : Bool) (f : b ≡ isFractured doc) (v : Verdict) w
 -- ---- a line
 
 module _ (line : List ℕ) where
-  pub too-long : 32_768 < length line → Frame.long ≡ answerOf line
+  pub too-long : longestLine < length line → Frame.long ≡ answerOf line
   unfolding answerOf choose
-  too-long h = rw (lt-ltb 32_768 (length line) h)
+  too-long h = rw (lt-ltb longestLine (length line) h)
 
-  module _ (h : length line ≤ 32_768) (out : List ℕ) (b : Bool) (d : Decoded line out b) where
+  module _ (h : length line ≤ longestLine) (out : List ℕ) (b : Bool) (d : Decoded line out b) where
     pub not-hex : b ≡ false → Frame.hex ≡ answerOf line
     unfolding answerOf choose
-    not-hex e = let n : bytesOf line ≡ none = rw e at d in rw (le-ltb 32_768 (length line) h, n)
+    not-hex e = let n : bytesOf line ≡ none = rw e at d in rw (le-ltb longestLine (length line) h, n)
 
     pub answered : b ≡ true → (a : Frame.Answer) → a ≡ frameOf (take (length line / 2) out) → a ≡ answerOf line
     unfolding answerOf choose
-    answered e a w = let n : bytesOf line ≡ some (take (length line / 2) out) = rw e at d in rw (le-ltb 32_768 (length line) h, n, w)
+    answered e a w = let n : bytesOf line ≡ some (take (length line / 2) out) = rw e at d in rw (le-ltb longestLine (length line) h, n, w)
 
 -- a part of a text has the length that it was asked for
 pub counted : (n : ℕ) (xs : List ℕ) → n ≤ length xs → n ≡ length (take n xs)

@@ -6,6 +6,7 @@ use mathlib.Core.Option.{Option, some, none}
 use lib.Dec.{ltb, eqb}
 use lib.ListN.{length, getD}
 use Rattle.json.specs.Choose.{choose}
+use Rattle.json.specs.Limits.{longestLine, benchKeys}
 use Rattle.json.specs.Reading.{Outcome, halt, done, Asked, answers, refuses}
 use Rattle.binary_json_rules.specs.Verdict as Binary
 use Rattle.fractured_json_rules.specs.Meaning.{Keys}
@@ -56,7 +57,7 @@ verdictOf (halt number place keys) = refuses number place
 verdictOf (done u keys) = answers u
 
 unfoldable pub frameOf : List ℕ → Answer
-frameOf doc = choose (isFractured doc) (fractured (verdictOf (Fractured.verdict 4_096 doc))) (binary (Binary.verdict doc))
+frameOf doc = choose (isFractured doc) (fractured (verdictOf (Fractured.verdict benchKeys doc))) (binary (Binary.verdict doc))
 
 abbrev pub answerIf : Option (List ℕ) → Answer
 answerIf none = hex
@@ -64,4 +65,4 @@ answerIf (some doc) = frameOf doc
 
 -- "Over 32,768 characters: `long`, tested first"
 unfoldable pub answerOf : List ℕ → Answer
-answerOf line = choose (ltb 32_768 (length line)) long (answerIf (bytesOf line))
+answerOf line = choose (ltb longestLine (length line)) long (answerIf (bytesOf line))

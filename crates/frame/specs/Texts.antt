@@ -32,7 +32,7 @@ said hex = ascii " hex\n"
 said (binary v) = ascii " B" ++ verdictText v
 said (fractured v) = ascii " F" ++ verdictText v
 
--- frames are numbered from 1
+-- the line of the n-th answer
 unfoldable pub answerText : ℕ → Answer → List ℕ
 answerText n a = decimal n ++ said a
 

@@ -3,19 +3,23 @@ mod hex;
 mod texts;
 
 use json::Verdict;
+use json::limits::BENCH_KEYS;
+use json::limits::LONGEST_LINE;
 pub use texts::text;
 pub use texts::total;
 ghost use mathlib.Core.Path.{_≡_};
+ghost use Rattle.json.specs.Limits.{benchKeys};
 ghost use Rattle.json.specs.Reading.{told};
+ghost use Prim.Native.Nat.{_*_};
 ghost use lib.ListN.{length};
 ghost use Rattle.fractured_json_rules.specs.Verdict.{verdict};
 ghost use Rattle.frame.specs.Frame.{isFractured, verdictOf, frameOf, answerOf};
 ghost use Rattle.frame.specs.Told.{toldAnswer};
 
-// The most characters of a line, and the most bytes of a frame.
-pub const LONGEST: usize = 32768;
+// The most bytes of a frame, and the words of the key table.
+const BYTES: usize = LONGEST_LINE / 2;
 
-const BYTES: usize = 16384;
+const WORDS: usize = 2 * BENCH_KEYS;
 
 // The answer of a line: too long, not hexadecimal, or the verdict of its frame.
 pub enum Answer {
@@ -38,15 +42,15 @@ fn is_fractured(doc: &[u8]) -> bool
     false
 }
 
-// Room for 4,096 keys.
-fn key_table() -> [u32; 8192]
-    ensures { λ r. ⌜ 8192 ≡ length r ⌝ }
+// Room for the keys of a frame.
+fn key_table() -> [u32; WORDS]
+    ensures { λ r. ⌜ 2 * benchKeys ≡ length r ⌝ }
 {
-    [0; 8192]
+    [0; WORDS]
 }
 
 fn check_fractured(doc: &[u8]) -> Verdict
-    ensures { λ r. ⌜ told r ≡ verdictOf (verdict 4096 (now (doc .entry))) ⌝ }
+    ensures { λ r. ⌜ told r ≡ verdictOf (verdict benchKeys (now (doc .entry))) ⌝ }
 {
     let mut keys = key_table();
     let c = fractured_json_check::check(doc, &mut keys);
@@ -66,7 +70,7 @@ fn check_frame(doc: &[u8]) -> Answer
 pub fn answer_to(line: &[u8]) -> Answer
     ensures { λ r. ⌜ toldAnswer r ≡ answerOf (now (line .entry)) ⌝ }
 {
-    if LONGEST < line.len() {
+    if LONGEST_LINE < line.len() {
         return Answer::Long;
     }
     let mut bytes = [0u8; BYTES];

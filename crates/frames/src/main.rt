@@ -2,9 +2,13 @@
 mod lines;
 mod output;
 
+use json::limits::LONGEST_LINE;
 use libc::STDIN_FILENO;
 use lines::Run;
 use output::Output;
+
+// How many characters of a line are held: one more than the longest has, which is enough to tell that it is too long.
+const HELD: usize = LONGEST_LINE + 1;
 
 // The run after one read, and whether there may be more to read.
 struct Turn {
@@ -73,7 +77,7 @@ fn bench(block: &mut [u8], line: &mut [u8], out: &mut [u8]) {
 
 fn main() {
     let mut block = io::large_buffer();
-    let mut line = [0u8; 32769];
+    let mut line = [0u8; HELD];
     let mut out = io::large_buffer();
     bench(&mut block, &mut line, &mut out);
 }

@@ -4,10 +4,10 @@ use mathlib.Core.Bool.{true, false}
 use mathlib.Core.Path.{_≡_, refl}
 use Rattle.json.specs.Bytes.{number, lowField, highField, hex}
 use Rattle.json.specs.Choose.{choose}
-use Rattle.json.specs.Limits.{leastBinary, leastFractured, longest, deepest, mostKeys}
+use Rattle.json.specs.Limits.{leastBinary, leastFractured, longest, deepest, mostKeys, longestLine, benchKeys}
 use Rattle.json.specs.Number.{binary32, binary64, finite, magnitude, floatTree, wholeTree, signedTree}
 use Rattle.json.specs.Texts.{byNumbers, compareTexts}
-use Rattle.json.specs.Tree.{Tree, null, num, arr, obj, none, more, end, member, depth, values}
+use Rattle.json.specs.Tree.{Tree, null, num, arr, obj, none, more, end, member, depth}
 use Rattle.json.specs.declared.Order.the-variants.{Below, Equal, Above}
 
 -- little endian; the five-bit field is the lower one
@@ -35,13 +35,14 @@ pub numbers-finite :
 unfolding finite
 numbers-finite = (refl, refl, refl, refl, refl)
 
--- [1, {"a": [], "b": {}}] has 5 values, and its containers are nested 3 deep; a scalar has 1 and 0
+-- the containers of [1, {"a": [], "b": {}}] are nested 3 deep; a scalar has none
 abbrev tree : Tree
 tree = arr (more (num false (2 ^ 1074)) (more (obj (member (hex 1 0x61) (arr none) (member (hex 1 0x62) (obj end) end))) none))
 
-pub tree-measures : (values tree ≡ 5) × (depth tree ≡ 3) × (values null ≡ 1) × (depth null ≡ 0)
-tree-measures = (refl, refl, refl, refl)
+pub nesting : (depth tree ≡ 3) × (depth null ≡ 0)
+nesting = (refl, refl)
 
 -- the limits of document 01
-pub limits : (leastBinary ≡ 12) × (leastFractured ≡ 4) × (longest ≡ 65_536) × (deepest ≡ 32) × (mostKeys ≡ 4_096)
-limits = (refl, refl, refl, refl, refl)
+pub limits :
+    (leastBinary ≡ 12) × (leastFractured ≡ 4) × (longest ≡ 65_536) × (deepest ≡ 32) × (mostKeys ≡ 4_096) × (longestLine ≡ 32_768) × (benchKeys ≡ 4_096)
+limits = (refl, refl, refl, refl, refl, refl, refl)

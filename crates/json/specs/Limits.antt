@@ -18,3 +18,10 @@ deepest = 32
 -- the most keys that a key table has room for
 abbrev pub mostKeys : ℕ
 mostKeys = 4_096
+
+-- the bench: the most characters in a line, and the keys that its table has room for
+abbrev pub longestLine : ℕ
+longestLine = 32_768
+
+abbrev pub benchKeys : ℕ
+benchKeys = 4_096

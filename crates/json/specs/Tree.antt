@@ -1,6 +1,6 @@
 -- The tree that a document of either format means: document 01, end of section "FJ, laid out". An array's values and an
 -- object's members stand in document order; a text is its bytes.
-use Prim.Native.Nat.{ℕ, zero, suc, _+_, max}
+use Prim.Native.Nat.{ℕ, zero, suc, max}
 use mathlib.Core.Bool.{Bool}
 use mathlib.Core.List.{List}
 use mathlib.Core.Logic.{_≢_}
@@ -51,24 +51,6 @@ abbrev mutual
   pub depthm : Members → ℕ
   depthm end = 0
   depthm (member k t ms) = max (depth t) (depthm ms)
-
--- how many values stand in a tree, itself and each one below it
-abbrev mutual
-  pub values : Tree → ℕ
-  values null = 1
-  values (bool b) = 1
-  values (num s m) = 1
-  values (str s) = 1
-  values (arr ts) = suc (valuess ts)
-  values (obj ms) = suc (valuesm ms)
-
-  pub valuess : Trees → ℕ
-  valuess none = 0
-  valuess (more t ts) = values t + valuess ts
-
-  pub valuesm : Members → ℕ
-  valuesm end = 0
-  valuesm (member k t ms) = values t + valuesm ms
 
 -- value i of an array is v
 abbrev pub ElementIs : Trees → ℕ → Tree → Type 0

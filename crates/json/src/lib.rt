@@ -1,4 +1,5 @@
-// The types that both readers answer with. What they mean stands in specs/.
+// The types that both readers answer with, and the limits of both formats. What they mean stands in specs/.
+pub mod limits;
 
 // A refusal: the place where a rule failed, and the number of that rule.
 pub struct Refusal {

@@ -1,4 +1,4 @@
--- What two texts' order is, from a place up to which they agree: one law for each way through `compare`.
+-- What two texts' order is, from a place from which on the order of the rest is theirs: one law for each way through `compare`.
 use mathlib.Core.Path.{_≡_, refl, sym, subst, _∙_}
 use mathlib.Core.Bool.{Bool, true}
 use mathlib.Core.List.{List}
@@ -16,44 +16,44 @@ use Rattle.json.specs.Bytes.{Bytes, number}
 use Rattle.json.specs.Choose.{choose}
 use Rattle.word.proofs.Laws.{number-part}
 use Rattle.json.specs.Texts.{byNumbers, compareTexts}
-use Rattle.text.specs.Agreement.{Agree}
+use Rattle.text.specs.OrderFrom.{OrderFrom}
 use Rattle.json.specs.declared.Order.the-variants.{Below, Equal, Above}
 
-pub agree-first : (a b : List ℕ) → Agree a b 0
-unfolding Agree
-agree-first a b = refl
+pub order-first : (a b : List ℕ) → OrderFrom a b 0
+unfolding OrderFrom
+order-first a b = refl
 
-module _ (a b : List ℕ) (i : ℕ) (here : Agree a b i) where
+module _ (a b : List ℕ) (i : ℕ) (here : OrderFrom a b i) where
   pub byte-below : i < length a → i < length b → getD a i 0 < getD b i 0 → Below ≡ compareTexts a b
-  unfolding compareTexts byNumbers choose Agree
+  unfolding compareTexts byNumbers choose OrderFrom
   byte-below ha hb h = rw (drop-cons a i 0 ha, drop-cons b i 0 hb, lt-ltb _ _ h) at here
 
   pub byte-above : i < length a → i < length b → getD b i 0 < getD a i 0 → Above ≡ compareTexts a b
-  unfolding compareTexts byNumbers choose Agree
+  unfolding compareTexts byNumbers choose OrderFrom
   byte-above ha hb h =
       let h' : getD b i 0 ≤ getD a i 0 = omega arith in
       rw (drop-cons a i 0 ha, drop-cons b i 0 hb, le-ltb _ _ h', lt-ltb _ _ h) at here
 
-  pub byte-equal : i < length a → i < length b → getD b i 0 ≤ getD a i 0 → getD a i 0 ≤ getD b i 0 → Agree a b (i + 1)
-  unfolding compareTexts byNumbers choose Agree
+  pub byte-equal : i < length a → i < length b → getD b i 0 ≤ getD a i 0 → getD a i 0 ≤ getD b i 0 → OrderFrom a b (i + 1)
+  unfolding compareTexts byNumbers choose OrderFrom
   byte-equal ha hb h h' = rw (add-one i) (rw (drop-cons a i 0 ha, drop-cons b i 0 hb, le-ltb _ _ h, le-ltb _ _ h') at here)
 
   pub second-ends : i < length a → length b ≤ i → Above ≡ compareTexts a b
-  unfolding compareTexts Agree
+  unfolding compareTexts OrderFrom
   second-ends ha hb = rw (drop-cons a i 0 ha, drop-of-length-le b hb) at here
 
   pub first-ends : length a ≤ i → i < length b → Below ≡ compareTexts a b
-  unfolding compareTexts Agree
+  unfolding compareTexts OrderFrom
   first-ends ha hb = rw (drop-of-length-le a ha, drop-cons b i 0 hb) at here
 
   pub both-end : length a ≤ i → length b ≤ i → Equal ≡ compareTexts a b
-  unfolding compareTexts Agree
+  unfolding compareTexts OrderFrom
   both-end ha hb = rw (drop-of-length-le a ha, drop-of-length-le b hb) at here
 
 -- ---- eight bytes at a step
 
--- texts whose next n bytes make the same number agree in them
-same-bytes : (a b : List ℕ) → Bytes a → Bytes b → (n i : ℕ) → i + n ≤ length a → i + n ≤ length b → number a i n ≡ number b i n → Agree a b i → Agree a b (i + n)
+-- texts whose next n bytes make the same number have the same bytes there
+same-bytes : (a b : List ℕ) → Bytes a → Bytes b → (n i : ℕ) → i + n ≤ length a → i + n ≤ length b → number a i n ≡ number b i n → OrderFrom a b i → OrderFrom a b (i + n)
 unfolding number
 same-bytes a b ga gb zero i ha hb e h = let z : i + 0 ≡ i = omega arith in rw z h
 same-bytes a b ga gb (suc n) i ha hb e h =
@@ -70,9 +70,9 @@ pub eight-read : (a b : List ℕ) (i x y : ℕ) → x ≡ number (take (length a
 eight-read a b i x y ex ey = rw (ex, ey, number-part a i 8, number-part b i 8)
 
 pub eight-equal : (a b : List ℕ) (i n stop : ℕ) (r : Bool) → r ≡ eqb (number a i 8) (number b i 8) → r ≡ true → ((k : ℕ) → Fits w8 (getD a k 0)) → ((k : ℕ) → Fits w8 (getD b k 0))
-    → n ≤ length a → n ≤ length b → stop ≤ n → i % 8 ≡ 0 → stop % 8 ≡ 0 → i < stop → Agree a b i → Agree a b (i + 8)
+    → n ≤ length a → n ≤ length b → stop ≤ n → i % 8 ≡ 0 → stop % 8 ≡ 0 → i < stop → OrderFrom a b i → OrderFrom a b (i + 8)
 eight-equal a b i n stop r e t ga gb ha hb u v w h g =
     let yes : T (eqb (number a i 8) (number b i 8)) = subst T (sym t ∙ e) tt in
     same-bytes a b (λ k. ga k .fits) (λ k. gb k .fits) 8 i (omega arith) (omega arith) (eqb→eq (number a i 8) (number b i 8) yes) g
 
-pub ruleset answers = (agree-first, eight-read, eight-equal, byte-below, byte-above, byte-equal, second-ends, first-ends, both-end, needs)
+pub ruleset answers = (order-first, eight-read, eight-equal, byte-below, byte-above, byte-equal, second-ends, first-ends, both-end, needs)

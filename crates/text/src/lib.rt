@@ -8,7 +8,7 @@ ghost use lib.Dec.{eqb};
 ghost use lib.ListN.{length};
 ghost use Rattle.json.specs.Bytes.{number};
 ghost use Rattle.json.specs.Texts.{compareTexts};
-ghost use Rattle.text.specs.Agreement.{Agree};
+ghost use Rattle.text.specs.OrderFrom.{OrderFrom};
 
 fn shorter(a: &[u8], b: &[u8]) -> usize
     ensures { λ r. ⌜ (r ≤ length (now (a .entry))) × (r ≤ length (now (b .entry))) ⌝ }
@@ -29,9 +29,9 @@ fn same_eight(a: &[u8], b: &[u8], i: usize) -> bool
     x == y
 }
 
-// A place up to which the texts agree, found eight bytes at a step.
-fn agree(a: &[u8], b: &[u8]) -> usize
-    ensures { λ r. ⌜ (r ≤ length (now (a .entry))) × Agree (now (a .entry)) (now (b .entry)) r ⌝ }
+// Passes over equal bytes, eight at a step: the order of the rest is that of the texts.
+fn pass_equal(a: &[u8], b: &[u8]) -> usize
+    ensures { λ r. ⌜ (r ≤ length (now (a .entry))) × OrderFrom (now (a .entry)) (now (b .entry)) r ⌝ }
 {
     let n = shorter(a, b);
     let stop = n - n % 8;
@@ -50,7 +50,7 @@ fn agree(a: &[u8], b: &[u8]) -> usize
 pub fn compare(a: &[u8], b: &[u8]) -> Order
     ensures { λ r. ⌜ r ≡ compareTexts (now (a .entry)) (now (b .entry)) ⌝ }
 {
-    let mut i = agree(a, b);
+    let mut i = pass_equal(a, b);
     while i < a.len() {
         if b.len() <= i {
             return Order::Above;

@@ -1,21 +1,21 @@
 use Prim.Native.Nat.{_-_, _≤_}
 use lib.ListN.{length}
-use Rattle.text.specs.Agreement.{Agree}
+use Rattle.text.specs.OrderFrom.{OrderFrom}
 use Rattle.text.proofs.Laws.{answers}
 use Rattle.text.proofs.compare.Statement.{statement}
 use Rattle.text.proofs.compare.Tie as tie
 use Rattle.text.proofs.compare.Reads as reads
 use Rattle.text.proofs.compare.Lts as lts
-use Rattle.text.proofs.agree.Reads as agree-reads
+use Rattle.text.proofs.pass_equal.Reads as pass-equal-reads
 
 abbrev Inv-loop : tie.InvT-loop
-Inv-loop a b i₀ i = (i ≤ length a) × Agree a b i
+Inv-loop a b i₀ i = (i ≤ length a) × OrderFrom a b i
 
 abbrev μ-loop : tie.MeasureT-loop
 μ-loop a b i₀ i = length a - i
 
-agree-requires : tie.Need-agree-requires Inv-loop μ-loop
-agree-requires c κs = search answers
+pass-equal-requires : tie.Need-pass-equal-requires Inv-loop μ-loop
+pass-equal-requires c κs = search answers
 
 loop-holds : tie.Need-loop-holds Inv-loop μ-loop
 loop-holds c = search answers
@@ -56,7 +56,7 @@ compare-spec =
     (tie.spec
     Inv-loop
     μ-loop
-    agree-requires
+    pass-equal-requires
     loop-holds
     returns
     shared-slice-read-x

@@ -1,16 +1,16 @@
 use mathlib.Core.Path.{_≡_}
 use Prim.Native.Nat.{_-_, _%_, _≤_}
-use Rattle.text.specs.Agreement.{Agree}
+use Rattle.text.specs.OrderFrom.{OrderFrom}
 use Rattle.text.proofs.Laws.{answers}
-use Rattle.text.proofs.agree.Statement.{statement}
-use Rattle.text.proofs.agree.Tie as tie
-use Rattle.text.proofs.agree.Reads as reads
-use Rattle.text.proofs.agree.Lts as lts
+use Rattle.text.proofs.pass_equal.Statement.{statement}
+use Rattle.text.proofs.pass_equal.Tie as tie
+use Rattle.text.proofs.pass_equal.Reads as reads
+use Rattle.text.proofs.pass_equal.Lts as lts
 use Rattle.text.proofs.same_eight.Reads as same-eight-reads
 use Rattle.text.proofs.shorter.Reads as shorter-reads
 
 abbrev Inv-loop : tie.InvT-loop
-Inv-loop a b n stop i₀ i = (i % 8 ≡ 0) × (stop % 8 ≡ 0) × (i ≤ stop) × (stop ≤ n) × Agree a b i
+Inv-loop a b n stop i₀ i = (i % 8 ≡ 0) × (stop % 8 ≡ 0) × (i ≤ stop) × (stop ≤ n) × OrderFrom a b i
 
 abbrev μ-loop : tie.MeasureT-loop
 μ-loop a b n stop i₀ i = stop - i
@@ -42,8 +42,8 @@ returns c = search answers
 returns-2 : tie.Need-returns-2 Inv-loop μ-loop
 returns-2 c = search answers
 
-pub agree-spec : {M : Type 1} → statement M
-agree-spec =
+pub pass-equal-spec : {M : Type 1} → statement M
+pass-equal-spec =
     tie.close
     (tie.spec
     Inv-loop

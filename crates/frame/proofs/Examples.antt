@@ -1,0 +1,30 @@
+-- The bench's output by the definitions: document 01's worked example, and what the rulings say of lines.
+use mathlib.Core.List.{List, [], _∷_, map}
+use mathlib.Core.Path.{_≡_, refl}
+use Rattle.json.specs.Bytes.{number}
+use Rattle.json.specs.Choose.{choose}
+use Rattle.json.specs.Number.{finite}
+use Rattle.json.specs.Reading.{follow, _>>=_, need}
+use Rattle.json.specs.Texts.{byNumbers, compareTexts}
+use Rattle.binary_json_rules.specs.Areas as B
+use Rattle.binary_json_rules.specs.Verdict as BV
+use Rattle.fractured_json_rules.specs.ByteTables as F
+use Rattle.fractured_json_rules.specs.Verdict as FV
+use Rattle.frame.specs.Frame.{nibble, bytesOf, isFractured, frameOf, answerOf}
+use Rattle.frame.specs.Texts.{ascii, digits, decimal, verdictText, said, answerText, totalText}
+use Rattle.frame.specs.Bench.{linesFrom, answersFrom, benchText}
+
+pub bench-says :
+    map (λ input. benchText (ascii input))
+    ("010100000000000000000000\n464A016F046102\n020100000000000000000000\n0Z\n" ∷ "" ∷ "\n" ∷ "\n\n" ∷ "00\r\n" ∷ "\r\n464a0100" ∷ "46\n464A\n464A01\n4a46" ∷ [])
+    ≡ map ascii
+    ("frames\n1 B ok\n2 F ok\n3 B no 3 0\n4 hex\ntotal 4 ok 2\n"
+    ∷ "frames\ntotal 0 ok 0\n"
+    ∷ "frames\n1 B no 1 0\ntotal 1 ok 0\n"
+    ∷ "frames\n1 B no 1 0\n2 B no 1 0\ntotal 2 ok 0\n"
+    ∷ "frames\n1 hex\ntotal 1 ok 0\n"
+    ∷ "frames\n1 hex\n2 F ok\ntotal 2 ok 1\n"
+    ∷ "frames\n1 B no 1 1\n2 F no 31 2\n3 F no 31 3\n4 B no 1 2\ntotal 4 ok 0\n"
+    ∷ [])
+unfolding follow _>>=_ need choose number finite byNumbers compareTexts B.index B.count B.slot B.text B.content B.numbers B.kindOf B.typeOf BV.header BV.ascends BV.slotRules BV.slots BV.slotNamed BV.numberNamed BV.keyEntries BV.entryBy BV.entry BV.entries BV.containerBy BV.container BV.scalar BV.rootBy BV.check F.formOf F.keyFormOf FV.header FV.byteAt FV.payload FV.lengthAt FV.afterSecond FV.afterFirst FV.indexAt FV.inTurn FV.member FV.valueBy FV.value FV.met FV.newKey FV.oldKey FV.checkKeyBy FV.checkKey FV.check nibble bytesOf isFractured frameOf answerOf digits decimal verdictText said answerText totalText linesFrom answersFrom benchText
+bench-says = refl
