@@ -252,6 +252,10 @@ module _ (doc : List ℕ) (at kind width : ℕ) (w : FloatWidth kind width) wher
     pub number-finite : b ≡ true → answers (leaf (at + 1 + width)) ≡ ask (openKind (length doc) at kind (number doc (at + 1) width) (at + 1 + width))
     number-finite t = scalar-passes (length doc) at kind _ _ k b (e ∙ finite-is) t
 
+    pub binary64-finite : b ≡ true → kind ≡ 7 → answers (leaf (at + 9)) ≡ ask (openKind (length doc) at kind (number doc (at + 1) width) (at + 1 + width))
+    unfolding FloatWidth
+    binary64-finite t f = let z : at + 9 ≡ at + 1 + width = let v = w .1 f in omega arith in rw z (number-finite t)
+
     pub number-infinite : b ≡ false → refuses 43 at ≡ ask (openKind (length doc) at kind (number doc (at + 1) width) (at + 1 + width))
     number-infinite t = scalar-refused (length doc) at kind _ _ k b (e ∙ finite-is) t
 
@@ -262,7 +266,7 @@ tiny-leaf len at kind n w k =
 
 pub ruleset tiny-open-laws = (tiny-leaf, needs)
 
-pub ruleset scalar-laws = (float-inside, number-finite, number-infinite, needs)
+pub ruleset scalar-laws = (float-inside, number-finite, binary64-finite, number-infinite, needs)
 
 -- ---- a value at a place
 

@@ -138,12 +138,16 @@ fn length_at(doc: &[u8], at: usize, width: usize) -> usize
     word::integer(doc, at + 1, 4) as usize
 }
 
-// The number at a place, whose payload takes so many bytes.
+// The number at a place, whose payload takes so many bytes. The end of a binary64, the most frequent number, does not wait for its width
+// to be looked up.
 fn open_scalar(doc: &[u8], at: usize, kind: u8, width: usize) -> Open
     requires { ⌜ FloatWidth kind width × (kind < 8) × (width < length (now doc) - at) ⌝ }
     ensures { λ r. ⌜ toldOpen r ≡ ask (openKind (length (now (doc .entry))) at kind (number (now (doc .entry)) (at + 1) width) (at + 1 + width)) ⌝ }
 {
     if finite_at(doc, at, kind) {
+        if kind == 7 {
+            return Open::Leaf(at + 9);
+        }
         return Open::Leaf(at + 1 + width);
     }
     Open::Refused(Refusal {
