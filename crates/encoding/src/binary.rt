@@ -116,10 +116,10 @@ pub fn give_scan(out: &mut [u64], answer: Scanned) -> u32
     }
 }
 
-// 1, both counts and the Entry, or 0 and both counts.
+// 1, both counts and the Entry, or 0 and both counts; of a refusal, the place and the counts 0 and 0.
 pub fn give_lookup(out: &mut [u64], answer: Looked) -> u32
     requires { ⌜ 4 ≤ length (now out) ⌝ }
-    ensures { λ r. ⌜ hands r (now (out .exit)) ≡ given (now (out .entry)) (coded counted (toldLookup answer)) ⌝ }
+    ensures { λ r. ⌜ hands r (now (out .exit)) ≡ given (now (out .entry)) (counted (toldLookup answer)) ⌝ }
 {
     match answer {
         Looked::Entry { at, first, second } => four(
@@ -130,6 +130,11 @@ pub fn give_lookup(out: &mut [u64], answer: Looked) -> u32
             at.0 as u64,
         ),
         Looked::Absent { first, second } => three(out, 0, first as u64, second as u64),
-        Looked::Refused(r) => refuse(out, r),
+        Looked::Refused(r) => {
+            out[0] = r.place as u64;
+            out[1] = 0;
+            out[2] = 0;
+            r.number
+        }
     }
 }
