@@ -15,7 +15,7 @@ use Rattle.json.specs.Texts.{byNumbers, compareTexts}
 use Rattle.json.proofs.Reading.{stops, pass, fail}
 use Rattle.binary_json_rules.specs.Areas.{index, count, slot, text, content, numbers, kindOf, typeOf}
 use Rattle.binary_json_rules.specs.Verdict.{header, ascends, slotRules, slots, slotNamed, numberNamed, keyEntries, entryBy, entry, entries, containerBy, container, scalar, rootBy, check, verdict}
-use Rattle.binary_json_rules.specs.Questions.{opening, treeWord, body, bodyBy, kindAndSize, elementsBy, element, membersBy, object, memberAt, slotRead, textNamed, slotText, typeBy, entryType, isContainer, isString, isNumber, containerAt, stringAt, numberAt}
+use Rattle.binary_json_rules.specs.Questions.{opening, treeWord, body, bodyWords, kindAndSize, element, object, memberAt, slotRead, textNamed, slotText, entryType, containerAt, stringAt, numberAt}
 use Rattle.binary_json_rules.specs.Halving.{turn, halveIf, halveFrom, halve}
 use Rattle.binary_json_rules.specs.Lookup.{absent, counted, afterKeys, afterStrings, quickLookup, lookup, lookupOf, scanFrom, plainScan}
 use Rattle.binary_json_rules.specs.Lookup as Lookup
@@ -61,7 +61,7 @@ checks =
     says (hex 20 0x0102000042000000000000000000000000000000) (refuses 8 4) ∷
     says (hex 12 0x010100002200000000000000) (refuses 8 4) ∷
     says (hex 24 0x810200002000000085010000220000000000000000000000) (refuses 8 12) ∷
-    -- 9: type 6; a string below, between and behind the slots
+    -- 9: type 6; a string below, between and after the slots
     says (hex 16 0x81010000200000000600000000000000) (refuses 9 8) ∷
     says (hex 21 0x81010000200000008301000001000000A002000000) (refuses 9 8) ∷
     says (hex 21 0x81010000200000004302000001000000A002000000) (refuses 9 8) ∷
@@ -199,5 +199,5 @@ pub questions-say :
     -- asked of an array
     × (lookupOf (ask (quickLookup (hex 12 0x010100000000000000000000) 4 (97 ∷ []))) ≡ lookup (refuses 21 4) 0 0)
     × (ask (plainScan (hex 12 0x010100000000000000000000) 4 (97 ∷ [])) ≡ refuses 21 4)
-unfolding need _>>=_ follow choose number finite byNumbers compareTexts index count slot text content numbers kindOf typeOf header slotNamed numberNamed opening treeWord body bodyBy kindAndSize elementsBy element membersBy object memberAt slotRead textNamed slotText typeBy entryType isContainer isString isNumber containerAt stringAt numberAt turn halveIf halveFrom halve afterKeys afterStrings quickLookup lookupOf scanFrom plainScan
+unfolding need _>>=_ follow choose number finite byNumbers compareTexts index count slot text content numbers header slotNamed numberNamed opening treeWord body bodyWords kindAndSize element object memberAt slotRead textNamed slotText entryType containerAt stringAt numberAt turn halveIf halveFrom halve afterKeys afterStrings quickLookup lookupOf scanFrom plainScan
 questions-say = (refl, refl, refl, refl, refl, refl, refl, refl, refl, refl, refl, refl, refl, refl, refl, refl, refl, refl, refl, refl, refl, refl, refl, refl, refl, refl, refl, refl, refl, refl, refl, refl, refl, refl, refl, refl, refl, refl, refl, refl, refl, refl, refl, refl, refl, refl, refl, refl, refl, refl, refl, refl, refl, refl, refl, refl, refl, refl, refl, refl, refl, refl, refl, refl, refl, refl, refl, refl, refl, refl, refl, refl, refl, refl, refl, refl, refl, refl, refl, refl, refl)
