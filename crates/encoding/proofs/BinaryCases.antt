@@ -18,7 +18,7 @@ use Rattle.binary_json_areas.specs.declared.offsets.TreeOffset.{TreeOffset}
 use Rattle.binary_json_areas.specs.declared.offsets.SlotOffset.{SlotOffset}
 use Rattle.binary_json_answers.specs.Told.{toldSized, toldTree, toldMember, toldType, toldSpan, toldBits, toldScan, toldLookup}
 use Rattle.encoding.proofs.WordLaws.{three-written, second-inside, third-inside}
-use Rattle.encoding.specs.Encoding.{hands, given, code, coded, nothing, one, spanned, sized, memberAt, found, counted}
+use Rattle.encoding.specs.Encoding.{hands, given, code, coded, nothing, one, placeAndLength, sized, memberAt, found, counted}
 
 module _ (words after : List ℕ) (r : ℕ) where
   module _ (a : Verdict) where
@@ -41,7 +41,7 @@ module _ (words after : List ℕ) (r : ℕ) where
   pub type-case : (a b : Typed) → a ≡ b → hands r after ≡ given words (coded one (toldType b)) → hands r after ≡ given words (coded one (toldType a))
   type-case a b e g = rw e g
 
-  pub span-case : (a b : Span) → a ≡ b → hands r after ≡ given words (coded spanned (toldSpan b)) → hands r after ≡ given words (coded spanned (toldSpan a))
+  pub span-case : (a b : Span) → a ≡ b → hands r after ≡ given words (coded placeAndLength (toldSpan b)) → hands r after ≡ given words (coded placeAndLength (toldSpan a))
   span-case a b e g = rw e g
 
   pub bits-case : (a b : Bits) → a ≡ b → hands r after ≡ given words (coded one (toldBits b)) → hands r after ≡ given words (coded one (toldBits a))

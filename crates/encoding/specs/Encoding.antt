@@ -47,8 +47,8 @@ nothing u = []
 abbrev pub one : ℕ → List ℕ
 one n = n ∷ []
 
-abbrev pub spanned : Span → List ℕ
-spanned s = s .place ∷ s .len ∷ []
+abbrev pub placeAndLength : Span → List ℕ
+placeAndLength s = s .place ∷ s .len ∷ []
 
 -- kind (0 array, 1 object, 2 top-level scalar) and size
 abbrev pub sized : Binary.Sized → List ℕ
@@ -95,7 +95,7 @@ abbrev pub valueAt : Fractured.Found → List ℕ
 valueAt (Fractured.valueAt o) = 1 ∷ o ∷ []
 valueAt Fractured.absent = 0 ∷ []
 
--- the number of pairs, behind the place of a refusal
+-- the number of pairs, after the place of a refusal
 abbrev pub checkedBy : ℕ → Asked (Unit {0}) → Coded
 checkedBy count (done u s) = code 0 (count ∷ [])
 checkedBy count (halt number place s) = code number (place ∷ count ∷ [])

@@ -18,7 +18,7 @@ ghost use Prim.Native.Nat.{_≤_};
 ghost use lib.ListN.{length};
 ghost use Rattle.json.specs.Reading.{told};
 ghost use Rattle.binary_json_answers.specs.Told.{toldSized, toldTree, toldMember, toldType, toldSpan, toldBits, toldScan, toldLookup};
-ghost use Rattle.encoding.specs.Encoding.{hands, given, coded, nothing, one, spanned, sized, memberAt, found, counted};
+ghost use Rattle.encoding.specs.Encoding.{hands, given, coded, nothing, one, placeAndLength, sized, memberAt, found, counted};
 
 // A verdict has no values.
 pub fn give_verdict(out: &mut [u64], answer: Verdict) -> u32
@@ -85,7 +85,7 @@ pub fn give_type(out: &mut [u64], answer: Typed) -> u32
 // Place and length of a text.
 pub fn give_span(out: &mut [u64], answer: Span) -> u32
     requires { ⌜ 2 ≤ length (now out) ⌝ }
-    ensures { λ r. ⌜ hands r (now (out .exit)) ≡ given (now (out .entry)) (coded spanned (toldSpan answer)) ⌝ }
+    ensures { λ r. ⌜ hands r (now (out .exit)) ≡ given (now (out .entry)) (coded placeAndLength (toldSpan answer)) ⌝ }
 {
     match answer {
         Span::At { place, len } => two(out, place as u64, len as u64),
