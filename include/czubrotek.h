@@ -76,7 +76,7 @@ uint32_t bj_plain_scan(const uint8_t *doc, size_t doc_len, size_t tree, const ui
 uint32_t fj_check(const uint8_t *doc, size_t doc_len, uint32_t *keys, size_t keys_len, uint64_t *out, size_t out_len);
 
 /* Asks where a value ends; back references go by the key table and the number of its pairs, `count`.
-   Returns 0 and writes the offset behind its last byte, or a refusal; needs 1 word. */
+   Returns 0 and writes the offset after its last byte, or a refusal; needs 1 word. */
 uint32_t fj_end(const uint8_t *doc, size_t doc_len, const uint32_t *keys, size_t keys_len, size_t count, size_t at,
                 uint64_t *out, size_t out_len);
 
