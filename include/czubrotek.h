@@ -58,7 +58,8 @@ uint32_t bj_number(const uint8_t *doc, size_t doc_len, size_t tree, uint64_t *ou
 uint32_t bj_slot(const uint8_t *doc, size_t doc_len, size_t slot, uint64_t *out, size_t out_len);
 
 /* Looks a key up in the object at a Meta, by halving the strings and then the KeyEntries.
-   Returns 0 and writes 1, both counts of comparisons and the Entry, or 0 and both counts, or a refusal; needs 4 words. */
+   Returns 0 and writes 1, both counts of comparisons and the Entry, or 0 and both counts, or a refusal and writes its
+   place and the counts 0 and 0; needs 4 words. */
 uint32_t bj_quick_lookup(const uint8_t *doc, size_t doc_len, size_t tree, const uint8_t *key, size_t key_len,
                          uint64_t *out, size_t out_len);
 
@@ -75,7 +76,7 @@ uint32_t bj_plain_scan(const uint8_t *doc, size_t doc_len, size_t tree, const ui
 uint32_t fj_check(const uint8_t *doc, size_t doc_len, uint32_t *keys, size_t keys_len, uint64_t *out, size_t out_len);
 
 /* Asks where a value ends; back references go by the key table and the number of its pairs, `count`.
-   Returns 0 and writes the offset behind its last byte, or a refusal; needs 1 word. */
+   Returns 0 and writes the offset after its last byte, or a refusal; needs 1 word. */
 uint32_t fj_end(const uint8_t *doc, size_t doc_len, const uint32_t *keys, size_t keys_len, size_t count, size_t at,
                 uint64_t *out, size_t out_len);
 

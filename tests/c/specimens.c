@@ -113,6 +113,8 @@ static void binary_questions(void) {
     lend();
     EXPECT("lookup of b", bj_quick_lookup(doc, len, 4, b, 1, out, 4), 0, 0, 1, 0);
     lend();
+    EXPECT("lookup before the tree", bj_quick_lookup(doc, len, 0, a, 1, out, 4), 20, 0, 0, 0);
+    lend();
     EXPECT("scan for a", bj_plain_scan(doc, len, 4, a, 1, out, 4), 0, 1, 12);
     lend();
     EXPECT("scan for b", bj_plain_scan(doc, len, 4, b, 1, out, 4), 0, 0);
@@ -135,6 +137,8 @@ static void binary_questions(void) {
     lend();
     expect("too few words", bj_quick_lookup(doc, len, 4, a, 1, out, 3), CZUBROTEK_TOO_FEW, 0, NULL);
     start("81010000220000000402000000000000000000000000F03F");
+    lend();
+    EXPECT("lookup in a scalar", bj_quick_lookup(doc, len, 4, a, 1, out, 4), 21, 4, 0, 0);
     lend();
     EXPECT("element", bj_element(doc, len, 4, 0, out, 4), 0, 8);
     lend();

@@ -20,7 +20,7 @@ use Rattle.binary_json_rules.specs.Leads.{EntryOf, Leads}
 use Rattle.binary_json_rules.specs.Questions.{kindAndSize, element, keyEntryOf, entryOf, memberAt, slotText, slotBytes, entryType, containerAt, stringAt, stringBytes, numberAt}
 use Rattle.binary_json_rules.specs.Questions as Questions
 use Rattle.binary_json_rules.specs.Halving.{digits, turnsOf}
-use Rattle.binary_json_rules.specs.Lookup.{Found, entry, absent, Counted, quickLookup, textHalving, keyTurns, plainScan}
+use Rattle.binary_json_rules.specs.Lookup.{Found, entry, absent, Counted, counted, quickLookup, Lookup, lookup, lookupOf, textHalving, keyTurns, plainScan}
 use Rattle.binary_json_rules.specs.Answers.{sizedAs, typedAs}
 use Rattle.binary_json_rules.proofs.Demands as Rules
 use Rattle.binary_json_areas.specs.declared.offsets.TreeOffset.{TreeOffset}
@@ -128,14 +128,27 @@ abbrev pub lookedBy : Found → ℕ → ℕ → Looked
 lookedBy (entry o) first second = Looked.Entry (treeOffset o) first second
 lookedBy absent first second = Looked.Absent first second
 
-abbrev lookedIs : Asked Counted → Looked
-lookedIs (halt n p u) = Looked.Refused (refusal n p)
-lookedIs (done a u) = lookedBy (a .answer) (a .first) (a .second)
+abbrev lookedAs : ℕ → ℕ → Asked Found → Looked
+lookedAs first second (halt n p u) = Looked.Refused (refusal n p)
+lookedAs first second (done f u) = lookedBy f first second
+
+abbrev lookedIs : Lookup → Looked
+lookedIs l = lookedAs (l .first) (l .second) (l .answer)
 
 looked-is : (r : Looked) → lookedIs (toldLookup r) ≡ r
 looked-is (Looked.Entry o m n) = refl
 looked-is (Looked.Absent m n) = refl
 looked-is (Looked.Refused r) = refl
+
+-- nothing of a rule's answer is lost in `lookupOf`
+abbrev countedAs : ℕ → ℕ → Asked Found → Asked Counted
+countedAs first second (halt n p u) = refuses n p
+countedAs first second (done f u) = answers (counted f first second)
+
+counted-as : (q : Asked Counted) → countedAs (lookupOf q .first) (lookupOf q .second) (lookupOf q .answer) ≡ q
+unfolding lookupOf
+counted-as (halt n p u) = refl
+counted-as (done a u) = refl
 
 -- what a tree says to the questions for its container's kind and size, and for its Entry's type
 abbrev pub sizedCase : Tree → Sized
@@ -191,8 +204,15 @@ module _ (doc : List ℕ) (c n p : ℕ) where
   pub member-refused : (j : ℕ) (r : MemberAt) → toldMember r ≡ ask (memberAt doc c j) → (r ≡ MemberAt.Refused (refusal n p)) ↔ (ask (memberAt doc c j) ≡ refuses n p)
   member-refused j r e = answered-exactly toldMember memberIs member-is r e (MemberAt.Refused (refusal n p))
 
-  pub quick-lookup-refused : (x : List ℕ) (r : Looked) → toldLookup r ≡ ask (quickLookup doc c x) → (r ≡ Looked.Refused (refusal n p)) ↔ (ask (quickLookup doc c x) ≡ refuses n p)
-  quick-lookup-refused x r e = answered-exactly toldLookup lookedIs looked-is r e (Looked.Refused (refusal n p))
+  -- a refused quick lookup has the counts 0 and 0
+  pub quick-lookup-refused : (x : List ℕ) (r : Looked) → toldLookup r ≡ lookupOf (ask (quickLookup doc c x))
+      → ((r ≡ Looked.Refused (refusal n p)) ↔ (ask (quickLookup doc c x) ≡ refuses n p)) × ((r ≡ Looked.Refused (refusal n p)) ↔ (toldLookup r ≡ lookup (refuses n p) 0 0))
+  unfolding lookupOf
+  quick-lookup-refused x r e =
+      let said : lookup (refuses n p) 0 0 ≡ toldLookup r → r ≡ Looked.Refused (refusal n p) = λ h. sym (looked-is r) ∙ ap lookedIs (sym h) in (
+        (λ h. sym (counted-as (ask (quickLookup doc c x))) ∙ ap (λ l. countedAs (l .first) (l .second) (l .answer)) (sym e ∙ ap toldLookup h), λ h. said (sym (e ∙ ap lookupOf h))),
+        (λ h. ap toldLookup h, λ h. said (sym h)),
+      )
 
   pub plain-scan-refused : (x : List ℕ) (r : Scanned) → toldScan r ≡ ask (plainScan doc c x) → (r ≡ Scanned.Refused (refusal n p)) ↔ (ask (plainScan doc c x) ≡ refuses n p)
   plain-scan-refused x r e = answered-exactly toldScan scannedIs scanned-is r e (Scanned.Refused (refusal n p))
@@ -263,8 +283,9 @@ module _ (doc : List ℕ) (t : Tree) (m : Means doc t) (c : ℕ) (l : Leads doc 
   pub member-of-other : (u : Tree) (j : ℕ) (r : MemberAt) → NoObject u → ContainerIs doc u c → toldMember r ≡ ask (memberAt doc c j) → r ≡ MemberAt.Refused (refusal 21 c)
   member-of-other u j r n h e = sym (member-is r) ∙ ap memberIs (e ∙ Rules.member-of-other doc t m c l u j n h)
 
-  pub quick-lookup-of-other : (u : Tree) (x : List ℕ) (r : Looked) → NoObject u → ContainerIs doc u c → toldLookup r ≡ ask (quickLookup doc c x) → r ≡ Looked.Refused (refusal 21 c)
-  quick-lookup-of-other u x r n h e = sym (looked-is r) ∙ ap lookedIs (e ∙ Rules.quick-lookup-of-other doc t m c l u x n h)
+  pub quick-lookup-of-other : (u : Tree) (x : List ℕ) (r : Looked) → NoObject u → ContainerIs doc u c → toldLookup r ≡ lookupOf (ask (quickLookup doc c x)) → r ≡ Looked.Refused (refusal 21 c)
+  unfolding lookupOf
+  quick-lookup-of-other u x r n h e = sym (looked-is r) ∙ ap lookedIs (e ∙ ap lookupOf (Rules.quick-lookup-of-other doc t m c l u x n h))
 
   pub plain-scan-of-other : (u : Tree) (x : List ℕ) (r : Scanned) → NoObject u → ContainerIs doc u c → toldScan r ≡ ask (plainScan doc c x) → r ≡ Scanned.Refused (refusal 21 c)
   plain-scan-of-other u x r n h e = sym (scanned-is r) ∙ ap scannedIs (e ∙ Rules.plain-scan-of-other doc t m c l u x n h)
@@ -319,7 +340,8 @@ pub record LookedUp (doc : List ℕ) (t : Tree) (m : Means doc t) (c : ℕ) (ms 
   pub few : first + second ≤ digits (count doc) + digits (sizem ms)
 
 pub lookups-agree : (doc : List ℕ) (t : Tree) (m : Means doc t) (c : ℕ) (ms : Members) (x : List ℕ) (quick : Looked) (scan : Scanned) → Leads doc c → ContainerIs doc (obj ms) c
-    → toldLookup quick ≡ ask (quickLookup doc c x) → toldScan scan ≡ ask (plainScan doc c x) → LookedUp doc t m c ms x quick scan
+    → toldLookup quick ≡ lookupOf (ask (quickLookup doc c x)) → toldScan scan ≡ ask (plainScan doc c x) → LookedUp doc t m c ms x quick scan
+unfolding lookupOf
 lookups-agree doc t m c ms x quick scan l h p q =
     let r = Rules.lookups-agree doc t m c ms x l h in
     record {
@@ -328,7 +350,7 @@ lookups-agree doc t m c ms x quick scan l h p q =
       by-scan = sym (scanned-is scan) ∙ ap scannedIs (q ∙ r .by-scan);
       first = r .first;
       second = r .second;
-      by-halving = sym (looked-is quick) ∙ ap lookedIs (p ∙ r .by-halving);
+      by-halving = sym (looked-is quick) ∙ ap lookedIs (p ∙ ap lookupOf (r .by-halving));
       first-is = r .first-is;
       second-is = r .second-is;
       few = r .few;

@@ -60,8 +60,8 @@ toldScan (Scanned.Entry o) = answers (Finds.entry (o .0))
 toldScan Scanned.Absent = answers Finds.absent
 toldScan (Scanned.Refused r) = refuses (r .number) (r .place)
 
--- a refusal is its number and place; 0 and 0 stand for its counts where both are printed (docs/DECISIONS.md, "Answers of a lookup")
-abbrev pub toldLookup : Looked → Asked Finds.Counted
-toldLookup (Looked.Entry o m n) = answers (Finds.counted (Finds.entry (o .0)) m n)
-toldLookup (Looked.Absent m n) = answers (Finds.counted Finds.absent m n)
-toldLookup (Looked.Refused r) = refuses (r .number) (r .place)
+-- with both counts; a refusal has 0 and 0
+abbrev pub toldLookup : Looked → Finds.Lookup
+toldLookup (Looked.Entry o m n) = Finds.lookup (answers (Finds.entry (o .0))) m n
+toldLookup (Looked.Absent m n) = Finds.lookup (answers Finds.absent) m n
+toldLookup (Looked.Refused r) = Finds.lookup (refuses (r .number) (r .place)) 0 0

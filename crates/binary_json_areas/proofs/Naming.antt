@@ -47,13 +47,13 @@ module _ (doc : List ℕ) (a : Areas) (x : Laid doc a) (v : ℕ) where
       unfolding slotNamed
       to-last n p = pass _ _ _ _ tt (le→leb _ _ (rw first-is at b)) ∙ pass _ _ _ _ tt (eq→eqb (rw first-is at s))
 
-      pub behind-slots : a .index + 4 + 4 * a .count ≤ v → SlotNamed doc v false
-      behind-slots h n p = to-last n p ∙ need-no _ _ _ tt (past (rw last-is at h))
+      pub after-slots : a .index + 4 + 4 * a .count ≤ v → SlotNamed doc v false
+      after-slots h n p = to-last n p ∙ need-no _ _ _ tt (past (rw last-is at h))
 
       pub a-slot : v < a .index + 4 + 4 * a .count → SlotNamed doc v true
       a-slot h n p = to-last n p ∙ need-yes _ _ _ tt (lt→ltb _ _ (rw last-is at h))
 
-pub ruleset slot-named-laws = (before-slots, between-slots, behind-slots, a-slot, needs)
+pub ruleset slot-named-laws = (before-slots, between-slots, after-slots, a-slot, needs)
 
 pub long-enough : (doc : List ℕ) (a : Areas) → Laid doc a → 8 ≤ length doc
 long-enough doc a x = let f = x .framed in let l = f .least in let i = f .slots-inside in omega arith
@@ -86,15 +86,15 @@ module _ (doc : List ℕ) (a : Areas) (x : Laid doc a) (v : ℕ) where
         to-finite : (n p : ℕ) → ask (numberNamed doc v n p) ≡ ask (need (finite binary64 (number doc v 8)) 10 p)
         to-finite n p = let m = long-enough doc a x in let q : v + 8 ≤ length doc = omega arith in to-inside n p ∙ pass _ _ _ _ tt (le→leb _ _ q)
 
-        pub infinite : bits / 4_503_599_627_370_496 % 2048 ≡ 2047 → NumberNamed doc v Numbered.Infinite
+        pub not-finite : bits / 4_503_599_627_370_496 % 2048 ≡ 2047 → NumberNamed doc v Numbered.NotFinite
         unfolding finite
-        infinite q n p = to-finite n p ∙ need-no _ _ _ tt (λ t. T-not (eqb (number doc v 8 / 2 ^ 52 % 2 ^ 11) (2 ^ 11 - 1)) t (eq→eqb (rw bits-are at q)))
+        not-finite q n p = to-finite n p ∙ need-no _ _ _ tt (λ t. T-not (eqb (number doc v 8 / 2 ^ 52 % 2 ^ 11) (2 ^ 11 - 1)) t (eq→eqb (rw bits-are at q)))
 
         pub finite-number : (bits / 4_503_599_627_370_496 % 2048 ≡ 2047 → ⊥) → NumberNamed doc v (Numbered.Finite bits)
         unfolding finite
         finite-number q = (bits-are, λ n p. to-finite n p ∙ need-yes _ _ _ tt (not-T (eqb (number doc v 8 / 2 ^ 52 % 2 ^ 11) (2 ^ 11 - 1)) (unlike (rw bits-are at q))))
 
-pub ruleset number-named-laws = (before-numbers, between-numbers, cut-short, infinite, finite-number, long-enough, needs)
+pub ruleset number-named-laws = (before-numbers, between-numbers, cut-short, not-finite, finite-number, long-enough, needs)
 
 -- ---- texts
 

@@ -4,8 +4,9 @@ use mathlib.Core.Bool.{Bool, true, false}
 use mathlib.Core.List.{List}
 use mathlib.Core.Path.{_≡_}
 use lib.ListN.{length}
-use Rattle.json.specs.Reading.{ask, answers, refuses}
+use Rattle.json.specs.Reading.{Asked, ask, answers, refuses}
 use Rattle.json.specs.Bytes.{number}
+use Rattle.json.specs.Span.{Span}
 use Rattle.binary_json_rules.specs.Verdict.{slotNamed, numberNamed}
 use Rattle.binary_json_rules.specs.Questions.{slotRead, textNamed}
 use Rattle.binary_json_rules.specs.TreeOf.{slotAt}
@@ -18,14 +19,18 @@ SlotNamed doc v false = (n p : ℕ) → ask (slotNamed doc v n p) ≡ refuses n 
 
 abbrev pub NumberNamed : List ℕ → ℕ → Numbered → Type 0
 NumberNamed doc v (Numbered.Finite bits) = (bits ≡ number doc v 8) × ((n p : ℕ) → ask (numberNamed doc v n p) ≡ answers tt)
-NumberNamed doc v Numbered.Infinite = (n p : ℕ) → ask (numberNamed doc v n p) ≡ refuses 10 p
+NumberNamed doc v Numbered.NotFinite = (n p : ℕ) → ask (numberNamed doc v n p) ≡ refuses 10 p
 NumberNamed doc v Numbered.Outside = (n p : ℕ) → ask (numberNamed doc v n p) ≡ refuses n p
 
--- the text of slot k, where k is the number of the slot at v; a text that is read lies inside the document
-abbrev pub TextRead : List ℕ → ℕ → Texted → Type 0
-TextRead doc v (Texted.At p l) = (p + l ≤ length doc) × ((c : ℕ) → ask (slotRead doc (slotAt doc v) c) ≡ answers (record { place = p; len = l }))
-TextRead doc v Texted.Bad = (c : ℕ) → ask (slotRead doc (slotAt doc v) c) ≡ refuses 20 c
+-- a text asked for at any cursor; one that is answered lies inside the document
+abbrev pub TextAsked : List ℕ → (ℕ → Asked Span) → Texted → Type 0
+TextAsked doc asked (Texted.At p l) = (p + l ≤ length doc) × ((c : ℕ) → asked c ≡ answers (record { place = p; len = l }))
+TextAsked doc asked Texted.Bad = (c : ℕ) → asked c ≡ refuses 20 c
 
+-- the text of slot k, where k is the number of the slot at v
+abbrev pub TextRead : List ℕ → ℕ → Texted → Type 0
+TextRead doc v t = TextAsked doc (λ c. ask (slotRead doc (slotAt doc v) c)) t
+
+-- the text that v names, if it names a slot
 abbrev pub TextNamed : List ℕ → ℕ → Texted → Type 0
-TextNamed doc v (Texted.At p l) = (p + l ≤ length doc) × ((c : ℕ) → ask (textNamed doc v c) ≡ answers (record { place = p; len = l }))
-TextNamed doc v Texted.Bad = (c : ℕ) → ask (textNamed doc v c) ≡ refuses 20 c
+TextNamed doc v t = TextAsked doc (λ c. ask (textNamed doc v c)) t

@@ -25,7 +25,7 @@ fn texts_end(doc: &[u8], index: usize, count: usize) -> usize
     last.high
 }
 
-// Rules 1 to 4, then 20 at the cursor unless the texts end behind the slots and inside the document.
+// Rules 1 to 4, then 20 at the cursor unless the texts end after the slots and inside the document.
 pub fn open(doc: &[u8], cursor: usize) -> Asking
     ensures { λ r. ⌜ Opens (now (doc .entry)) cursor r ⌝ }
 {

@@ -32,7 +32,7 @@ pub fn slot_named(doc: &[u8], a: Areas, slot: SlotOffset) -> bool
 // A finite number with its bits; one that is not finite; or no number of the area.
 pub enum Numbered {
     Finite(u64),
-    Infinite,
+    NotFinite,
     Outside,
 }
 
@@ -56,7 +56,7 @@ pub fn number_named(doc: &[u8], a: Areas, number: NumberOffset) -> Numbered
     let bits = word::eight(&doc[v..]);
     let exponent = (bits >> 52) % 2048;
     if exponent == 2047 {
-        return Numbered::Infinite;
+        return Numbered::NotFinite;
     }
     Numbered::Finite(bits)
 }
@@ -79,7 +79,7 @@ fn text_start(doc: &[u8], a: Areas, v: usize) -> usize
     f.high
 }
 
-// The text of the slot at an offset, which is good to read if it lies behind the slots and before the numbers.
+// The text of the slot at an offset, which is good to read if it lies after the slots and before the numbers.
 fn read_text(doc: &[u8], a: Areas, v: usize) -> Texted
     requires { ⌜ Laid (now doc) a × SlotNamed (now doc) v true ⌝ }
     ensures { λ r. ⌜ TextRead (now (doc .entry)) v r ⌝ }

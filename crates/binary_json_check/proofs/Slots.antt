@@ -17,7 +17,7 @@ use Rattle.json.proofs.Reading.{eq→eqb, over, past, unlike, then, stops, pass
 use Rattle.binary_json_rules.specs.Areas.{low, high, count, slot, text, content, numbers}
 use Rattle.binary_json_rules.specs.Verdict.{ascends, slotRules, slots}
 use Rattle.binary_json_areas.specs.Laid.{Framed}
-use Rattle.binary_json_check.specs.Slots.{Texts, Rule5, SlotRead, SlotsRead}
+use Rattle.binary_json_check.specs.Slots.{Texts, Rule5, SlotKeeps, SlotsRead}
 use Rattle.binary_json_areas.specs.declared.areas.Walk.{Walk}
 use Rattle.binary_json_areas.proofs.Headers.{slot-is, slots-end}
 
@@ -96,7 +96,7 @@ module _ (doc : List ℕ) (k : ℕ) (w : Walk) (h : Rule5 doc k w) where
     pub end-forward : (before start : ℕ) → Texts doc k before start → start < e
     end-forward before start x = let a = x .start-is in let b = ended .1 in omega arith
 
-    pub first-read : k ≡ 0 → SlotRead doc k (Walk.End e)
+    pub first-read : k ≡ 0 → SlotKeeps doc k (Walk.End e)
     unfolding ascends
     first-read z = (ended .0, ended .1, ended .2, ended .3 ∙ rw z (need-yes true 6 _ tt tt))
 
@@ -107,7 +107,7 @@ module _ (doc : List ℕ) (k : ℕ) (w : Walk) (h : Rule5 doc k w) where
           let (j, r) = predecessor k later in
           ap (ascends doc) r ∙ ascends-at doc j before start e o (x .prior j r .0) (x .start-is ∙ ap (text doc) r) (ended .0 ∙ ap (λ n. text doc (suc n)) r) (compared ∙ rw (first, second))
 
-      pub below-read : o ≡ Below → SlotRead doc k (Walk.End e)
+      pub below-read : o ≡ Below → SlotKeeps doc k (Walk.End e)
       below-read q = (ended .0, ended .1, ended .2, ended .3 ∙ need-yes _ _ _ tt (rw (ascends-is, q) tt))
 
       pub not-below : (i c : ℕ) → Framed doc i c → (m : Order) → o ≡ m → isBelow m ≡ false → ask (slotRules doc k) ≡ refuses 6 (i + 4 + 4 * k)
@@ -122,7 +122,7 @@ pub record Slotted (doc : List ℕ) (c k before start : ℕ) : Type 0 where
   pub upto : k ≤ c
   pub same : ask (slots doc (c - k) k) ≡ ask (slots doc (count doc) 0)
   pub texts : Texts doc k before start
-  pub behind : slot doc (count doc) ≤ start
+  pub after : slot doc (count doc) ≤ start
 
 pub slotted-first : (doc : List ℕ) (i c b : ℕ) → Framed doc i c → Slotted doc c 0 b (i + 4 + 4 * c)
 unfolding text
@@ -132,26 +132,26 @@ slotted-first doc i c b g =
       upto = omega arith;
       same = let z : c - 0 ≡ count doc = let n = g .count-is in omega arith in rw z;
       texts = record { start-is = e; inside = g .slots-inside; prior = λ j q. absurd (omega arith) };
-      behind = omega arith;
+      after = omega arith;
     }
 
-module _ (doc : List ℕ) (c k before start : ℕ) (x : Slotted doc c k before start) (w : Walk) (h : SlotRead doc k w) (b : k < c) where
+module _ (doc : List ℕ) (c k before start : ℕ) (x : Slotted doc c k before start) (w : Walk) (h : SlotKeeps doc k w) (b : k < c) where
   one-more : ask (slots doc (c - k) k) ≡ ask (slotRules doc k >>= λ _. slots doc (c - suc k) (suc k))
   unfolding slots
   one-more = let e : c - k ≡ suc (c - suc k) = omega arith in rw e
 
   pub slotted-next : (e : ℕ) → w ≡ Walk.End e → Slotted doc c (k + 1) start e
   slotted-next e q =
-      let read : SlotRead doc k (Walk.End e) = rw q at h in
+      let read : SlotKeeps doc k (Walk.End e) = rw q at h in
       let n : k + 1 ≡ suc k = omega arith in
       let s = x .texts .start-is in
       let f = read .1 in
-      let a = x .behind in
+      let a = x .after in
       record {
         upto = omega arith;
         same = rw n (sym (then _ _ tt (read .3)) ∙ (sym one-more ∙ x .same));
         texts = record { start-is = rw n (read .0); inside = read .2; prior = λ j p. let z : k ≡ j = omega arith in (s ∙ ap (text doc) z, omega arith) };
-        behind = omega arith;
+        after = omega arith;
       }
 
   pub slotted-refused : (r : Refusal) → w ≡ Walk.Refused r → ask (slots doc (count doc) 0) ≡ refuses (r .number) (r .place)
@@ -163,6 +163,6 @@ slotted-done doc i c k before start g x b =
     let u = x .upto in
     let e : k ≡ count doc = let n = g .count-is in omega arith in
     let z : c - k ≡ 0 = omega arith in
-    (x .texts .start-is ∙ ap (text doc) e, x .behind, x .texts .inside, sym (x .same) ∙ rw z)
+    (x .texts .start-is ∙ ap (text doc) e, x .after, x .texts .inside, sym (x .same) ∙ rw z)
 
 pub ruleset read-slots-laws = (slotted-first, slotted-next, slotted-refused, slotted-done, needs)

@@ -17,12 +17,12 @@ use Rattle.binary_json_rules.specs.Verdict.{slotNamed, keyEntries, entryBy, ent
 use Rattle.binary_json_rules.proofs.Cases.{by-kind, by-type}
 use Rattle.binary_json_areas.specs.Laid.{Laid}
 use Rattle.binary_json_areas.specs.Naming.{SlotNamed, NumberNamed}
-use Rattle.binary_json_check.specs.Walks.{toldWalk, onStep, Stepped, opened, Opened}
+use Rattle.binary_json_check.specs.Walks.{toldWalk, onStep, Stepped, containerWith, BodyIs}
 use Rattle.binary_json_areas.specs.declared.areas.Areas.{Areas}
 use Rattle.binary_json_areas.specs.declared.areas.Walk.{Walk}
 use Rattle.binary_json_areas.specs.declared.named.Numbered.{Numbered}
 use Rattle.binary_json_check.specs.declared.walk.Step.{Step}
-use Rattle.binary_json_check.specs.declared.walk.Opening.{Opening}
+use Rattle.binary_json_check.specs.declared.walk.Body.{Body}
 
 -- ---- rule 11
 
@@ -98,9 +98,9 @@ module _ (doc : List ℕ) (at due kind value : ℕ) (ks : kind ≡ low doc at) (
     unfolding Stepped entryBy typeOf
     number-entry bits q child = let h : NumberNamed doc value (Numbered.Finite bits) = rw q at named in sym (rw (k4, sym vs) (then _ _ tt (h .1 9 at))) ∙ of-kind child
 
-    pub infinite-refused : m ≡ Numbered.Infinite → Stepped doc at due (Step.Refused (record { number = 10; place = at }))
+    pub not-finite-refused : m ≡ Numbered.NotFinite → Stepped doc at due (Step.Refused (record { number = 10; place = at }))
     unfolding Stepped entryBy typeOf
-    infinite-refused q child = sym (rw (k4, sym vs) (stops _ _ tt ((rw q at named) 9 at))) ∙ of-kind child
+    not-finite-refused q child = sym (rw (k4, sym vs) (stops _ _ tt ((rw q at named) 9 at))) ∙ of-kind child
 
     pub outside-refused : m ≡ Numbered.Outside → Stepped doc at due (Step.Refused (record { number = 9; place = at }))
     unfolding Stepped entryBy typeOf
@@ -119,7 +119,7 @@ module _ (doc : List ℕ) (at due kind value : ℕ) (ks : kind ≡ low doc at) (
   unfolding Stepped
   other-entry a b c d child = sym (large-type doc at due child kind (omega arith)) ∙ of-kind child
 
-pub ruleset entry-laws = (plain-entry, string-entry, string-refused, number-entry, infinite-refused, outside-refused, container-entry, not-due, other-entry, needs)
+pub ruleset entry-laws = (plain-entry, string-entry, string-refused, number-entry, not-finite-refused, outside-refused, container-entry, not-due, other-entry, needs)
 
 -- ---- rules 8 and 11
 
@@ -127,15 +127,15 @@ module _ (doc : List ℕ) (a : Areas) (x : Laid doc a) (o : ℕ) where
   index-is : a .index ≡ index doc
   index-is = x .framed .index-is
 
-  refused : a .index < o + 4 → Opened doc o (Opening.Refused (record { number = 8; place = o }))
-  unfolding Opened opened
+  refused : a .index < o + 4 → BodyIs doc o (Body.Refused (record { number = 8; place = o }))
+  unfolding BodyIs containerWith
   refused h child = sym (fail _ _ _ _ tt (over (rw index-is at h)))
 
-  pub past-index : a .index < o → Opened doc o (Opening.Refused (record { number = 8; place = o }))
+  pub past-index : a .index < o → BodyIs doc o (Body.Refused (record { number = 8; place = o }))
   past-index h = refused (omega arith)
 
   module _ (l : o ≤ a .index) where
-    pub no-meta : a .index - o < 4 → Opened doc o (Opening.Refused (record { number = 8; place = o }))
+    pub no-meta : a .index - o < 4 → BodyIs doc o (Body.Refused (record { number = 8; place = o }))
     no-meta h = refused (omega arith)
 
     pub meta-inside : 4 ≤ a .index - o → o + 4 ≤ a .index
@@ -145,52 +145,52 @@ module _ (doc : List ℕ) (a : Areas) (x : Laid doc a) (o : ℕ) where
       there : T (leb (o + 4) (index doc))
       there = let e = index-is in let q : o + 4 ≤ index doc = omega arith in le→leb _ _ q
 
-      opened-by : (child : ℕ → Reading (Unit {0}) ℕ) → ask (containerBy doc child o n (kindOf kind)) ≡ opened doc o child
-      unfolding opened
-      opened-by child = sym (pass _ _ _ _ tt there ∙ rw (sym ks, sym ns))
+      container-by : (child : ℕ → Reading (Unit {0}) ℕ) → ask (containerBy doc child o n (kindOf kind)) ≡ containerWith doc o child
+      unfolding containerWith
+      container-by child = sym (pass _ _ _ _ tt there ∙ rw (sym ks, sym ns))
 
       module _ (k0 : kind ≡ 0) where
-        pub array-refused : a .index < o + 4 + 4 * n → Opened doc o (Opening.Refused (record { number = 8; place = o }))
-        unfolding Opened containerBy kindOf
-        array-refused q child = sym (rw k0 (fail _ _ _ _ tt (over (rw index-is at q)))) ∙ opened-by child
+        pub array-refused : a .index < o + 4 + 4 * n → BodyIs doc o (Body.Refused (record { number = 8; place = o }))
+        unfolding BodyIs containerBy kindOf
+        array-refused q child = sym (rw k0 (fail _ _ _ _ tt (over (rw index-is at q)))) ∙ container-by child
 
-        pub array-opened : o + 4 + 4 * n ≤ a .index → Opened doc o (Opening.Body (o + 4) n)
-        unfolding Opened containerBy kindOf
-        array-opened q = (rw index-is at q, λ child. sym (rw k0 (pass _ _ _ _ tt (le→leb _ _ (rw index-is at q)))) ∙ opened-by child)
+        pub array-body : o + 4 + 4 * n ≤ a .index → BodyIs doc o (Body.Entries (o + 4) n)
+        unfolding BodyIs containerBy kindOf
+        array-body q = (rw index-is at q, λ child. sym (rw k0 (pass _ _ _ _ tt (le→leb _ _ (rw index-is at q)))) ∙ container-by child)
 
       kind-over : (child : ℕ → Reading (Unit {0}) ℕ) (k : ℕ) → (k ≡ 0 → ⊥) → (k ≡ 1 → ⊥) → ask (containerBy doc child o n (kindOf k)) ≡ refuses 8 o
       unfolding containerBy
       kind-over child =
           by-kind (λ k t. (k ≡ 0 → ⊥) → (k ≡ 1 → ⊥) → ask (containerBy doc child o n t) ≡ refuses 8 o) (λ p q. absurd (p refl)) (λ p q. absurd (q refl)) (λ p q. refl) (λ k p q. refl)
 
-      pub kind-refused : (kind ≡ 0 → ⊥) → (kind ≡ 1 → ⊥) → Opened doc o (Opening.Refused (record { number = 8; place = o }))
-      unfolding Opened
-      kind-refused p q child = sym (kind-over child kind p q) ∙ opened-by child
+      pub kind-refused : (kind ≡ 0 → ⊥) → (kind ≡ 1 → ⊥) → BodyIs doc o (Body.Refused (record { number = 8; place = o }))
+      unfolding BodyIs
+      kind-refused p q child = sym (kind-over child kind p q) ∙ container-by child
 
-pub ruleset open-laws = (past-index, no-meta, meta-inside, array-refused, array-opened, kind-refused, needs)
+pub ruleset body-laws = (past-index, no-meta, meta-inside, array-refused, array-body, kind-refused, needs)
 
 module _ (doc : List ℕ) (a : Areas) (x : Laid doc a) (o n : ℕ) (l : o + 4 ≤ a .index) (ns : n ≡ high doc o) (k1 : low doc o ≡ 1) where
-  object-by : (child : ℕ → Reading (Unit {0}) ℕ) → ask (containerBy doc child o n kObject) ≡ opened doc o child
-  unfolding opened kindOf
+  object-by : (child : ℕ → Reading (Unit {0}) ℕ) → ask (containerBy doc child o n kObject) ≡ containerWith doc o child
+  unfolding containerWith kindOf
   object-by child = sym (pass _ _ _ _ tt (le→leb _ _ (rw (x .framed .index-is) at l)) ∙ rw (k1, sym ns))
 
-  pub object-refused : a .index < o + 4 + 4 * (2 * n) → Opened doc o (Opening.Refused (record { number = 8; place = o }))
-  unfolding Opened containerBy
+  pub object-refused : a .index < o + 4 + 4 * (2 * n) → BodyIs doc o (Body.Refused (record { number = 8; place = o }))
+  unfolding BodyIs containerBy
   object-refused q child = sym (fail _ _ _ _ tt (over (rw (x .framed .index-is) at q))) ∙ object-by child
 
   module _ (q : o + 4 + 4 * (2 * n) ≤ a .index) (k : Verdict) (keyed : told k ≡ ask (keyEntries doc n 0 (o + 4))) where
-    pub keys-refused : (r : Refusal) → k ≡ Verdict.Refused r → Opened doc o (Opening.Refused r)
-    unfolding Opened containerBy
+    pub keys-refused : (r : Refusal) → k ≡ Verdict.Refused r → BodyIs doc o (Body.Refused r)
+    unfolding BodyIs containerBy
     keys-refused r e child = sym (pass _ _ _ _ tt (le→leb _ _ (rw (x .framed .index-is) at q)) ∙ stops _ _ tt (sym keyed ∙ ap told e)) ∙ object-by child
 
-    pub object-opened : k ≡ Verdict.Accepted → Opened doc o (Opening.Body (o + 4 + 4 * n) n)
-    unfolding Opened containerBy
-    object-opened e =
+    pub object-body : k ≡ Verdict.Accepted → BodyIs doc o (Body.Entries (o + 4 + 4 * n) n)
+    unfolding BodyIs containerBy
+    object-body e =
         let i = x .framed .index-is in
         let d : o + 4 + 8 * n ≡ o + 4 + 4 * n + 4 * n = omega arith in
         (omega arith, λ child. sym (pass _ _ _ _ tt (le→leb _ _ (rw (x .framed .index-is) at q)) ∙ (then _ _ tt (sym keyed ∙ ap told e) ∙ rw d)) ∙ object-by child)
 
-pub ruleset object-laws = (object-refused, keys-refused, object-opened, needs)
+pub ruleset object-laws = (object-refused, keys-refused, object-body, needs)
 
 -- ---- rule 12, and the walk itself
 
@@ -216,29 +216,29 @@ pub record Entered (doc : List ℕ) (a : Areas) (levels o left at due : ℕ) : T
   pub same : ask (entries doc (container (levels - 1) doc) left at due) ≡ ask (container levels doc o)
   pub inside : at + 4 * left ≤ a .index
 
-opened-is : (doc : List ℕ) (levels o : ℕ) → (levels ≡ 0 → ⊥) → opened doc o (container (levels - 1) doc) ≡ ask (container levels doc o)
-unfolding opened container
-opened-is doc zero o h = absurd (h refl)
-opened-is doc (suc l) o h = let e : suc l - 1 ≡ l = omega arith in rw e
+container-is : (doc : List ℕ) (levels o : ℕ) → (levels ≡ 0 → ⊥) → containerWith doc o (container (levels - 1) doc) ≡ ask (container levels doc o)
+unfolding containerWith container
+container-is doc zero o h = absurd (h refl)
+container-is doc (suc l) o h = let e : suc l - 1 ≡ l = omega arith in rw e
 
-module _ (doc : List ℕ) (a : Areas) (x : Laid doc a) (levels o : ℕ) (some : levels ≡ 0 → ⊥) (b : Opening) (h : Opened doc o b) where
-  pub opening-refused : (r : Refusal) → b ≡ Opening.Refused r → refuses (r .number) (r .place) ≡ ask (container levels doc o)
-  unfolding Opened
-  opening-refused r e = (rw e at h) (container (levels - 1) doc) ∙ opened-is doc levels o some
+module _ (doc : List ℕ) (a : Areas) (x : Laid doc a) (levels o : ℕ) (some : levels ≡ 0 → ⊥) (b : Body) (h : BodyIs doc o b) where
+  pub body-refused : (r : Refusal) → b ≡ Body.Refused r → refuses (r .number) (r .place) ≡ ask (container levels doc o)
+  unfolding BodyIs
+  body-refused r e = (rw e at h) (container (levels - 1) doc) ∙ container-is doc levels o some
 
-  pub entered-first : (f n : ℕ) → b ≡ Opening.Body f n → Entered doc a levels o n f (f + 4 * n)
-  unfolding Opened
+  pub entered-first : (f n : ℕ) → b ≡ Body.Entries f n → Entered doc a levels o n f (f + 4 * n)
+  unfolding BodyIs
   entered-first f n e =
-      let g : Opened doc o (Opening.Body f n) = rw e at h in
+      let g : BodyIs doc o (Body.Entries f n) = rw e at h in
       let i = x .framed .index-is in
       let j = g .0 in
-      record { same = g .1 (container (levels - 1) doc) ∙ opened-is doc levels o some; inside = omega arith }
+      record { same = g .1 (container (levels - 1) doc) ∙ container-is doc levels o some; inside = omega arith }
 
-module _ (doc : List ℕ) (a : Areas) (x : Laid doc a) (o : ℕ) (b : Opening) (h : Opened doc o b) (f n : ℕ) (e : b ≡ Opening.Body f n) where
+module _ (doc : List ℕ) (a : Areas) (x : Laid doc a) (o : ℕ) (b : Body) (h : BodyIs doc o b) (f n : ℕ) (e : b ≡ Body.Entries f n) where
   body-ends : f + 4 * n ≤ 65_536
-  unfolding Opened
+  unfolding BodyIs
   body-ends =
-      let g : Opened doc o (Opening.Body f n) = rw e at h in
+      let g : BodyIs doc o (Body.Entries f n) = rw e at h in
       let i = x .framed .index-is in let j = g .0 in let k = x .framed .short in let m = x .framed .slots-inside in
       omega arith
 
@@ -269,7 +269,7 @@ module _ (doc : List ℕ) (a : Areas) (levels o left at due : ℕ) (x : Entered 
   unfolding entries
   entered-done h = let e : left ≡ 0 = omega arith in rw e at (x .same)
 
-pub ruleset walk-laws = (pass-ends, child-ends, step-refused, no-level, opening-refused, entered-first, body-fits, due-fits, entered-next, entry-refused, entered-done, needs)
+pub ruleset walk-laws = (pass-ends, child-ends, step-refused, no-level, body-refused, entered-first, body-fits, due-fits, entered-next, entry-refused, entered-done, needs)
 
 -- ---- the root
 

@@ -8,7 +8,7 @@ ghost use lib.ListN.{length};
 ghost use Rattle.json.specs.Bytes.{part};
 ghost use Rattle.binary_json_rules.specs.Areas.{text};
 ghost use Rattle.binary_json_areas.specs.Laid.{Framed};
-ghost use Rattle.binary_json_check.specs.Slots.{Texts, Rule5, SlotRead, SlotsRead};
+ghost use Rattle.binary_json_check.specs.Slots.{Texts, Rule5, SlotKeeps, SlotsRead};
 
 // A text from start up to end, without its closing byte.
 pub(crate) fn content(doc: &[u8], start: usize, end: usize) -> &[u8]
@@ -60,7 +60,7 @@ fn slot_end(doc: &[u8], index: usize, count: usize, k: usize, start: usize) -> W
 fn read_slot(doc: &[u8], index: usize, count: usize, k: usize, before: usize, start: usize) -> Walk
     requires { ⌜ Framed (now doc) index count ⌝ }
     requires { ⌜ (k < count) × Texts (now doc) k before start ⌝ }
-    ensures { λ r. ⌜ SlotRead (now (doc .entry)) k r ⌝ }
+    ensures { λ r. ⌜ SlotKeeps (now (doc .entry)) k r ⌝ }
 {
     let w = slot_end(doc, index, count, k, start);
     match w {

@@ -13,7 +13,7 @@ ghost use Rattle.json.specs.Reading.{told, ask};
 ghost use Rattle.binary_json_rules.specs.Areas.{low, high, kindOf};
 ghost use Rattle.binary_json_rules.specs.Verdict.{keyEntries, entry, container, scalar, rootBy};
 ghost use Rattle.binary_json_areas.specs.Laid.{Laid};
-ghost use Rattle.binary_json_check.specs.Walks.{toldWalk, Stepped, Opened};
+ghost use Rattle.binary_json_check.specs.Walks.{toldWalk, Stepped, BodyIs};
 
 // Rule 11: n KeyEntries from a place on, each a slot's offset and above the one before.
 fn key_entries(doc: &[u8], a: Areas, first: usize, n: usize) -> Verdict
@@ -78,7 +78,7 @@ fn read_entry(doc: &[u8], a: Areas, at: usize, due: usize) -> Step
         let n = binary_json_areas::named::number_named(doc, a, NumberOffset(value));
         return match n {
             Numbered::Finite(_) => Step::Pass,
-            Numbered::Infinite => Step::Refused(Refusal {
+            Numbered::NotFinite => Step::Refused(Refusal {
                 number: 10,
                 place: at,
             }),
@@ -104,24 +104,24 @@ fn read_entry(doc: &[u8], a: Areas, at: usize, due: usize) -> Step
 }
 
 // A container's Entries: where they start and how many they are, or its refusal.
-pub enum Opening {
-    Body { first: usize, count: usize },
+pub enum Body {
+    Entries { first: usize, count: usize },
     Refused(Refusal),
 }
 
 // Rules 8 and 11 at the container at a place.
-fn open_container(doc: &[u8], a: Areas, o: usize) -> Opening
+fn read_body(doc: &[u8], a: Areas, o: usize) -> Body
     requires { ⌜ Laid (now doc) a ⌝ }
-    ensures { λ r. ⌜ Opened (now (doc .entry)) o r ⌝ }
+    ensures { λ r. ⌜ BodyIs (now (doc .entry)) o r ⌝ }
 {
     if a.index < o {
-        return Opening::Refused(Refusal {
+        return Body::Refused(Refusal {
             number: 8,
             place: o,
         });
     }
     if a.index - o < 4 {
-        return Opening::Refused(Refusal {
+        return Body::Refused(Refusal {
             number: 8,
             place: o,
         });
@@ -131,41 +131,41 @@ fn open_container(doc: &[u8], a: Areas, o: usize) -> Opening
     let n = f.high;
     if kind == 0 {
         if a.index < o + 4 + 4 * n {
-            return Opening::Refused(Refusal {
+            return Body::Refused(Refusal {
                 number: 8,
                 place: o,
             });
         }
-        return Opening::Body {
+        return Body::Entries {
             first: o + 4,
             count: n,
         };
     }
     if kind == 1 {
-        return open_object(doc, a, o, n);
+        return read_object(doc, a, o, n);
     }
-    Opening::Refused(Refusal {
+    Body::Refused(Refusal {
         number: 8,
         place: o,
     })
 }
 
 // An object: all its KeyEntries before its Entries.
-fn open_object(doc: &[u8], a: Areas, o: usize, n: usize) -> Opening
+fn read_object(doc: &[u8], a: Areas, o: usize, n: usize) -> Body
     requires { ⌜ Laid (now doc) a × (o + 4 ≤ a .index) ⌝ }
     requires { ⌜ (n ≡ high (now doc) o) × (n < 2 ^ 27) × (low (now doc) o ≡ 1) ⌝ }
-    ensures { λ r. ⌜ Opened (now (doc .entry)) o r ⌝ }
+    ensures { λ r. ⌜ BodyIs (now (doc .entry)) o r ⌝ }
 {
     if a.index < o + 4 + 4 * (2 * n) {
-        return Opening::Refused(Refusal {
+        return Body::Refused(Refusal {
             number: 8,
             place: o,
         });
     }
     let k = key_entries(doc, a, o + 4, n);
     match k {
-        Verdict::Refused(r) => Opening::Refused(r),
-        Verdict::Accepted => Opening::Body {
+        Verdict::Refused(r) => Body::Refused(r),
+        Verdict::Accepted => Body::Entries {
             first: o + 4 + 4 * n,
             count: n,
         },
@@ -201,10 +201,10 @@ pub(crate) fn walk_container(doc: &[u8], a: Areas, levels: usize, o: usize) -> W
             place: o,
         });
     }
-    let h = open_container(doc, a, o);
+    let h = read_body(doc, a, o);
     match h {
-        Opening::Refused(r) => Walk::Refused(r),
-        Opening::Body { first, count } => {
+        Body::Refused(r) => Walk::Refused(r),
+        Body::Entries { first, count } => {
             let mut left = count;
             let mut at = first;
             let mut due = first + 4 * count;

@@ -5,21 +5,20 @@ use mathlib.Core.List.{List, []}
 use Prim.Native.Nat.{ℕ, zero, suc, _+_, _-_, _^_, _≤_, _<_}
 use native.Mathlib.Omega.{arith}
 use borrow.Author.Needs.{needs}
-use lib.Dec.{T, ltb, ltb→lt, leb→le}
+use lib.Dec.{T, ltb, eqb, ltb→lt, leb→le}
 use lib.ListN.{length, take, drop}
 use mir.Syntax.{w64}
 use mir.Val.{Fits}
 use Rattle.json.specs.Bytes.{number}
-use Rattle.json.specs.Reading.{done, Asked, ask, answers, refuses, answer, _>>=_}
+use Rattle.json.specs.Reading.{done, Asked, ask, answers, refuses, answer, _>>=_, need}
 use Rattle.json.specs.Span.{spanned}
 use Rattle.json.specs.Span as Text
 use Rattle.json.specs.declared.Refusal.{Refusal}
-use Rattle.json.proofs.Reading.{then, stops, step, passed, need-done, done-answer}
-use Rattle.binary_json_rules.specs.Areas.{low, high, text, numbers, typeOf}
-use Rattle.binary_json_rules.specs.Questions.{opening, treeWord, slotRead, textNamed, slotText, typeBy, entryType, isContainer, isString, isNumber, containerAt, stringAt, numberAt}
+use Rattle.json.proofs.Reading.{eq→eqb, past, unlike, then, stops, pass, fail, step, passed, need-done, done-answer}
+use Rattle.binary_json_rules.specs.Areas.{low, high, text, numbers}
+use Rattle.binary_json_rules.specs.Questions.{opening, treeWord, slotRead, textNamed, slotText, entryType, containerAt, stringAt, numberAt}
 use Rattle.binary_json_rules.specs.Verdict.{numberNamed}
 use Rattle.binary_json_rules.specs.TreeOf.{slotAt}
-use Rattle.binary_json_rules.proofs.Cases.{by-type}
 use Rattle.binary_json_areas.specs.Laid.{Laid}
 use Rattle.binary_json_areas.specs.Naming.{NumberNamed, TextNamed}
 use Rattle.binary_json_areas.specs.Asking.{Open, Opens, WordNamed, Placed, Places}
@@ -51,24 +50,15 @@ module _ (doc : List ℕ) (c : ℕ) (p : Asking) (x : Places doc c p) (r : Refus
 -- ---- type
 
 module _ (doc : List ℕ) (a : Areas) (c : ℕ) (x : Placed doc a c) (kind : ℕ) (ks : kind ≡ low doc c) where
-  to-type : ask (typeBy c kind (typeOf kind)) ≡ ask (entryType doc c)
+  to-type : ask (need (ltb kind 6) 21 c >>= λ _. answer kind) ≡ ask (entryType doc c)
   unfolding entryType
   to-type = sym (comes-to doc a c _ x ∙ rw (sym ks))
 
-  small : (k : ℕ) → k < 6 → ask (typeBy c k (typeOf k)) ≡ answers k
-  unfolding typeBy
-  small = by-type (λ k t. k < 6 → ask (typeBy c k t) ≡ answers k) (λ h. refl) (λ h. refl) (λ h. refl) (λ h. refl) (λ h. refl) (λ h. refl) (λ k h. absurd (omega arith))
-
-  large : (k : ℕ) → 6 ≤ k → ask (typeBy c k (typeOf k)) ≡ refuses 21 c
-  unfolding typeBy
-  large =
-      by-type (λ k t. 6 ≤ k → ask (typeBy c k t) ≡ refuses 21 c) (λ h. absurd (omega arith)) (λ h. absurd (omega arith)) (λ h. absurd (omega arith)) (λ h. absurd (omega arith)) (λ h. absurd (omega arith)) (λ h. absurd (omega arith)) (λ k h. refl)
-
   pub typed : (t : ℕ) → kind ≡ t → T (ltb t 6) → answers t ≡ ask (entryType doc c)
-  typed t e h = let l = ltb→lt t 6 h in ap answers (sym e) ∙ (sym (small kind (omega arith)) ∙ to-type)
+  typed t e h = sym (rw e (pass _ _ _ _ tt h)) ∙ to-type
 
   pub untyped : (kind ≡ 0 → ⊥) → (kind ≡ 1 → ⊥) → (kind ≡ 2 → ⊥) → (kind ≡ 3 → ⊥) → (kind ≡ 4 → ⊥) → (kind ≡ 5 → ⊥) → refuses 21 c ≡ ask (entryType doc c)
-  untyped n0 n1 n2 n3 n4 n5 = sym (large kind (omega arith)) ∙ to-type
+  untyped n0 n1 n2 n3 n4 n5 = let h : 6 ≤ kind = omega arith in sym (fail _ _ _ _ tt (past h)) ∙ to-type
 
 pub ruleset type-laws = (place-of, type-stops, meta-inside, typed, untyped, needs)
 
@@ -85,77 +75,58 @@ module _ (doc : List ℕ) (c : ℕ) (p : Asking) (y : Places doc c p) (a : Areas
   entry-laid = here .open-at .laid
 
   module _ (kind value : ℕ) (ks : kind ≡ low doc c) (vs : value ≡ high doc c) where
-    to-container : ask (isContainer c (typeOf kind) >>= λ _. treeWord doc value c >>= λ _. answer value) ≡ ask (containerAt doc c)
+    to-container : ask (need (eqb kind 5) 21 c >>= λ _. treeWord doc value c >>= λ _. answer value) ≡ ask (containerAt doc c)
     unfolding containerAt
     to-container = sym (comes-to doc a c _ here ∙ rw (sym ks, sym vs))
 
-    other-container : (k : ℕ) → (k ≡ 5 → ⊥) → ask (isContainer c (typeOf k)) ≡ refuses 21 c
-    unfolding isContainer
-    other-container = by-type (λ k t. (k ≡ 5 → ⊥) → ask (isContainer c t) ≡ refuses 21 c) (λ q. refl) (λ q. refl) (λ q. refl) (λ q. refl) (λ q. refl) (λ q. absurd (q refl)) (λ k q. refl)
-
     pub no-container : (kind ≡ 5 → ⊥) → refuses 21 c ≡ ask (containerAt doc c)
-    no-container q = sym (stops _ _ tt (other-container kind q)) ∙ to-container
+    no-container q = sym (fail _ _ _ _ tt (unlike q)) ∙ to-container
 
     module _ (k5 : kind ≡ 5) (g : Bool) (w : WordNamed doc a value g) where
       pub container-outside : g ≡ false → refuses 20 c ≡ ask (containerAt doc c)
-      unfolding isContainer typeOf
-      container-outside q = sym (rw k5 (then _ _ tt refl ∙ stops _ _ tt ((rw q at w) c))) ∙ to-container
+      container-outside q = sym (pass _ _ _ _ tt (eq→eqb k5) ∙ stops _ _ tt ((rw q at w) c)) ∙ to-container
 
       pub container-found : g ≡ true → answers value ≡ ask (containerAt doc c)
-      unfolding isContainer typeOf
-      container-found q = let z : WordNamed doc a value true = rw q at w in sym (rw k5 (then _ _ tt refl ∙ then _ _ tt (z .1 c))) ∙ to-container
+      container-found q = let z : WordNamed doc a value true = rw q at w in sym (pass _ _ _ _ tt (eq→eqb k5) ∙ then _ _ tt (z .1 c)) ∙ to-container
 
-    to-number : ask (isNumber c (typeOf kind) >>= λ _. numberNamed doc value 20 c >>= λ _. answer (number doc value 8)) ≡ ask (numberAt doc c)
+    to-number : ask (need (eqb kind 4) 21 c >>= λ _. numberNamed doc value 20 c >>= λ _. answer (number doc value 8)) ≡ ask (numberAt doc c)
     unfolding numberAt
     to-number = sym (comes-to doc a c _ here ∙ rw (sym ks, sym vs))
 
-    other-number : (k : ℕ) → (k ≡ 4 → ⊥) → ask (isNumber c (typeOf k)) ≡ refuses 21 c
-    unfolding isNumber
-    other-number = by-type (λ k t. (k ≡ 4 → ⊥) → ask (isNumber c t) ≡ refuses 21 c) (λ q. refl) (λ q. refl) (λ q. refl) (λ q. refl) (λ q. absurd (q refl)) (λ q. refl) (λ k q. refl)
-
     pub no-number : (kind ≡ 4 → ⊥) → refuses 21 c ≡ ask (numberAt doc c)
-    no-number q = sym (stops _ _ tt (other-number kind q)) ∙ to-number
+    no-number q = sym (fail _ _ _ _ tt (unlike q)) ∙ to-number
 
     module _ (k4 : kind ≡ 4) (m : Numbered) (named : NumberNamed doc value m) where
       pub number-found : (bits : ℕ) → m ≡ Numbered.Finite bits → answers bits ≡ ask (numberAt doc c)
-      unfolding isNumber typeOf
       number-found bits q =
           let z : NumberNamed doc value (Numbered.Finite bits) = rw q at named in
-          sym (rw k4 (then _ _ tt refl ∙ (then _ _ tt (z .1 20 c) ∙ ap answers (sym (z .0))))) ∙ to-number
+          sym (pass _ _ _ _ tt (eq→eqb k4) ∙ (then _ _ tt (z .1 20 c) ∙ ap answers (sym (z .0)))) ∙ to-number
 
-      pub number-infinite : m ≡ Numbered.Infinite → refuses 10 c ≡ ask (numberAt doc c)
-      unfolding isNumber typeOf
-      number-infinite q = sym (rw k4 (then _ _ tt refl ∙ stops _ _ tt ((rw q at named) 20 c))) ∙ to-number
+      pub number-not-finite : m ≡ Numbered.NotFinite → refuses 10 c ≡ ask (numberAt doc c)
+      number-not-finite q = sym (pass _ _ _ _ tt (eq→eqb k4) ∙ stops _ _ tt ((rw q at named) 20 c)) ∙ to-number
 
       pub number-outside : m ≡ Numbered.Outside → refuses 20 c ≡ ask (numberAt doc c)
-      unfolding isNumber typeOf
-      number-outside q = sym (rw k4 (then _ _ tt refl ∙ stops _ _ tt ((rw q at named) 20 c))) ∙ to-number
+      number-outside q = sym (pass _ _ _ _ tt (eq→eqb k4) ∙ stops _ _ tt ((rw q at named) 20 c)) ∙ to-number
 
-    to-string : ask (isString c (typeOf kind) >>= λ _. textNamed doc value c) ≡ ask (stringAt doc c)
+    to-string : ask (need (eqb kind 3) 21 c >>= λ _. textNamed doc value c) ≡ ask (stringAt doc c)
     unfolding stringAt
     to-string = sym (comes-to doc a c _ here ∙ rw (sym ks, sym vs))
 
-    other-string : (k : ℕ) → (k ≡ 3 → ⊥) → ask (isString c (typeOf k)) ≡ refuses 21 c
-    unfolding isString
-    other-string = by-type (λ k t. (k ≡ 3 → ⊥) → ask (isString c t) ≡ refuses 21 c) (λ q. refl) (λ q. refl) (λ q. refl) (λ q. absurd (q refl)) (λ q. refl) (λ q. refl) (λ k q. refl)
-
     pub no-string : (kind ≡ 3 → ⊥) → refuses 21 c ≡ ask (stringAt doc c)
-    no-string q = sym (stops _ _ tt (other-string kind q)) ∙ to-string
+    no-string q = sym (fail _ _ _ _ tt (unlike q)) ∙ to-string
 
     module _ (k3 : kind ≡ 3) (t : Texted) (named : TextNamed doc value t) where
       pub string-found : (o l : ℕ) → t ≡ Texted.At o l → answers (record { place = o; len = l }) ≡ ask (stringAt doc c)
-      unfolding isString typeOf
       string-found o l q =
           let z : TextNamed doc value (Texted.At o l) = rw q at named in
-          sym (rw k3 (then _ _ tt refl ∙ z .1 c)) ∙ to-string
+          sym (pass _ _ _ _ tt (eq→eqb k3) ∙ z .1 c) ∙ to-string
 
       pub string-bad : t ≡ Texted.Bad → refuses 20 c ≡ ask (stringAt doc c)
-      unfolding isString typeOf
-      string-bad q = sym (rw k3 (then _ _ tt refl ∙ (rw q at named) c)) ∙ to-string
+      string-bad q = sym (pass _ _ _ _ tt (eq→eqb k3) ∙ (rw q at named) c) ∙ to-string
 
 pub ruleset container-laws = (container-stops, entry-inside, entry-laid, no-container, container-outside, container-found, needs)
 
-pub ruleset number-laws = (number-stops, entry-inside, entry-laid, no-number, number-found, number-infinite, number-outside, needs)
+pub ruleset number-laws = (number-stops, entry-inside, entry-laid, no-number, number-found, number-not-finite, number-outside, needs)
 
 pub ruleset string-laws = (string-stops, entry-inside, entry-laid, no-string, string-found, string-bad, needs)
 

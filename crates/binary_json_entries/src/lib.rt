@@ -111,7 +111,7 @@ pub fn number(doc: &[u8], cursor: TreeOffset) -> Bits
             let n = binary_json_areas::named::number_named(doc, a, NumberOffset(value));
             match n {
                 Numbered::Finite(bits) => Bits::Of(bits),
-                Numbered::Infinite => Bits::Refused(Refusal {
+                Numbered::NotFinite => Bits::Refused(Refusal {
                     number: 10,
                     place: c,
                 }),

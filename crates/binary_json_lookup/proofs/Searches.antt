@@ -11,7 +11,7 @@ use mir.Syntax.{w64}
 use mir.Val.{Fits}
 use Rattle.json.specs.Bytes.{part}
 use Rattle.json.specs.Choose.{choose}
-use Rattle.json.specs.Reading.{Asked, ask, answers, refuses, answer, _>>=_}
+use Rattle.json.specs.Reading.{ask, answers, refuses, answer, _>>=_}
 use Rattle.json.specs.Span as Text
 use Rattle.json.specs.Texts.{compareTexts, isEqual}
 use Rattle.json.specs.declared.Order.{Order}
@@ -23,7 +23,7 @@ use Rattle.binary_json_rules.specs.Areas.{word, count, slot}
 use Rattle.binary_json_rules.specs.Meaning.{SlotIs}
 use Rattle.binary_json_rules.specs.Questions.{slotRead, textNamed, entryOf}
 use Rattle.binary_json_rules.specs.Halving.{Item, compares, unreadable, Halved, found, missed, broken, middle, turn, halveIf, halveFrom, halve}
-use Rattle.binary_json_rules.specs.Lookup.{entry, absent, stringItem, strings, keyItem, keys, Counted, counted, afterKeys, afterStrings, quickLookup, scanFrom, plainScan}
+use Rattle.binary_json_rules.specs.Lookup.{entry, absent, stringItem, strings, keyItem, keys, afterKeys, afterStrings, quickLookup, Lookup, lookup, lookupOf, scanFrom, plainScan}
 use Rattle.binary_json_rules.proofs.Complete.{slot-named}
 use Rattle.binary_json_rules.proofs.Trees.{slot-at}
 use Rattle.binary_json_areas.specs.Laid.{Laid}
@@ -247,19 +247,19 @@ module _ (doc : List ℕ) (a : Areas) (c n k first : ℕ) (x : ObjectAt doc a c 
   sought-fits = let s = x .laid .framed .slots-inside in let l = x .laid .framed .short in omega arith
 
   module _ (f : Halving) (h : toldHalving f ≡ keys doc c n (a .index + 4 + 4 * k)) where
-    from-keys : (y : Halved) → toldHalving f ≡ y → ask (afterKeys c n first y) ≡ ask (afterKeys c n first (keys doc c n (slot doc k)))
-    from-keys y e = ap (λ z. ask (afterKeys c n first z)) (sym e ∙ (h ∙ ap (keys doc c n) (slot-is doc (a .index) (a .count) k (x .laid .framed))))
+    from-keys : (y : Halved) → toldHalving f ≡ y → lookupOf (ask (afterKeys c n first y)) ≡ lookupOf (ask (afterKeys c n first (keys doc c n (slot doc k))))
+    from-keys y e = ap (λ z. lookupOf (ask (afterKeys c n first z))) (sym e ∙ (h ∙ ap (keys doc c n) (slot-is doc (a .index) (a .count) k (x .laid .framed))))
 
-    pub key-looked : (at turns : ℕ) → f ≡ Halving.Found at turns → answers (counted (entry (c + 4 + 4 * n + 4 * at)) first turns) ≡ ask (afterKeys c n first (keys doc c n (slot doc k)))
-    unfolding afterKeys
+    pub key-looked : (at turns : ℕ) → f ≡ Halving.Found at turns → lookup (answers (entry (c + 4 + 4 * n + 4 * at))) first turns ≡ lookupOf (ask (afterKeys c n first (keys doc c n (slot doc k))))
+    unfolding afterKeys lookupOf
     key-looked at turns e = from-keys (found at turns) (ap toldHalving e)
 
-    pub key-not-looked : (at turns : ℕ) → f ≡ Halving.Missed at turns → answers (counted absent first turns) ≡ ask (afterKeys c n first (keys doc c n (slot doc k)))
-    unfolding afterKeys
+    pub key-not-looked : (at turns : ℕ) → f ≡ Halving.Missed at turns → lookup (answers absent) first turns ≡ lookupOf (ask (afterKeys c n first (keys doc c n (slot doc k))))
+    unfolding afterKeys lookupOf
     key-not-looked at turns e = from-keys (missed at turns) (ap toldHalving e)
 
-    pub key-broken : f ≡ Halving.Broken → refuses 20 c ≡ ask (afterKeys c n first (keys doc c n (slot doc k)))
-    unfolding afterKeys
+    pub key-broken : f ≡ Halving.Broken → lookup (refuses 20 c) 0 0 ≡ lookupOf (ask (afterKeys c n first (keys doc c n (slot doc k))))
+    unfolding afterKeys lookupOf
     key-broken e = from-keys broken (ap toldHalving e)
 
 pub found-within : (f : Halving) (m at turns : ℕ) → Within f m → f ≡ Halving.Found at turns → at < m
@@ -272,28 +272,28 @@ module _ (doc : List ℕ) (a : Areas) (c n : ℕ) (key : List ℕ) (x : ObjectAt
   object-areas = x .laid
 
   module _ (h : toldHalving s ≡ strings doc key) where
-    to-strings : (y : Halved) → toldHalving s ≡ y → ask (afterStrings doc c n y) ≡ ask (quickLookup doc c key)
+    to-strings : (y : Halved) → toldHalving s ≡ y → lookupOf (ask (afterStrings doc c n y)) ≡ lookupOf (ask (quickLookup doc c key))
     unfolding quickLookup
-    to-strings y e = ap (λ z. ask (afterStrings doc c n z)) (sym e ∙ h) ∙ sym (then _ _ tt (x .answered))
+    to-strings y e = ap (λ z. lookupOf (ask (afterStrings doc c n z))) (sym e ∙ h) ∙ ap lookupOf (sym (then _ _ tt (x .answered)))
 
-    pub string-looked : (at turns : ℕ) (r : Asked Counted) → s ≡ Halving.Found at turns → r ≡ ask (afterKeys c n turns (keys doc c n (slot doc at))) → r ≡ ask (quickLookup doc c key)
-    unfolding afterStrings
+    pub string-looked : (at turns : ℕ) (r : Lookup) → s ≡ Halving.Found at turns → r ≡ lookupOf (ask (afterKeys c n turns (keys doc c n (slot doc at)))) → r ≡ lookupOf (ask (quickLookup doc c key))
+    unfolding afterStrings lookupOf
     string-looked at turns r e q = q ∙ to-strings (found at turns) (ap toldHalving e)
 
-    pub string-not-looked : (at turns : ℕ) → s ≡ Halving.Missed at turns → answers (counted absent turns 0) ≡ ask (quickLookup doc c key)
-    unfolding afterStrings
+    pub string-not-looked : (at turns : ℕ) → s ≡ Halving.Missed at turns → lookup (answers absent) turns 0 ≡ lookupOf (ask (quickLookup doc c key))
+    unfolding afterStrings lookupOf
     string-not-looked at turns e = to-strings (missed at turns) (ap toldHalving e)
 
-    pub string-broken : s ≡ Halving.Broken → refuses 20 c ≡ ask (quickLookup doc c key)
-    unfolding afterStrings
+    pub string-broken : s ≡ Halving.Broken → lookup (refuses 20 c) 0 0 ≡ lookupOf (ask (quickLookup doc c key))
+    unfolding afterStrings lookupOf
     string-broken e = to-strings broken (ap toldHalving e)
 
 pub ruleset look-laws = (object-areas, found-within, string-looked, string-not-looked, string-broken, needs)
 
 module _ (doc : List ℕ) (c : ℕ) (key : List ℕ) (o : Object) (x : ObjectRead doc c o) where
-  pub lookup-stops : (r : Refusal) → o ≡ Object.Refused r → refuses (r .number) (r .place) ≡ ask (quickLookup doc c key)
-  unfolding quickLookup
-  lookup-stops r e = sym (stops _ _ tt (rw e at x))
+  pub lookup-stops : (r : Refusal) → o ≡ Object.Refused r → lookup (refuses (r .number) (r .place)) 0 0 ≡ lookupOf (ask (quickLookup doc c key))
+  unfolding quickLookup lookupOf
+  lookup-stops r e = ap lookupOf (sym (stops _ _ tt (rw e at x)))
 
   pub scan-stops : (r : Refusal) → o ≡ Object.Refused r → refuses (r .number) (r .place) ≡ ask (plainScan doc c key)
   unfolding plainScan

@@ -14,7 +14,7 @@ ghost use lib.ListN.{length};
 ghost use Rattle.json.specs.Bytes.{part};
 ghost use Rattle.json.specs.Reading.{ask};
 ghost use Rattle.binary_json_rules.specs.Areas.{slot};
-ghost use Rattle.binary_json_rules.specs.Lookup.{strings, keys, afterKeys, quickLookup, plainScan};
+ghost use Rattle.binary_json_rules.specs.Lookup.{strings, keys, afterKeys, quickLookup, lookupOf, plainScan};
 ghost use Rattle.binary_json_areas.specs.Laid.{Laid};
 ghost use Rattle.binary_json_metas.specs.Objects.{ObjectAt};
 ghost use Rattle.binary_json_lookup.specs.Lookups.{TextCompared, toldItem, toldHalving, Within, stringItems};
@@ -124,7 +124,7 @@ fn find_key(doc: &[u8], a: Areas, c: usize, n: usize, sought: SlotOffset) -> Hal
 // After string k was found, with so many comparisons: its slot among the KeyEntries.
 fn look_key(doc: &[u8], a: Areas, c: usize, n: usize, k: usize, first: usize) -> Looked
     requires { ⌜ ObjectAt (now doc) a c n × (k < a .count) ⌝ }
-    ensures { λ r. ⌜ toldLookup r ≡ ask (afterKeys c n first (keys (now (doc .entry)) c n (slot (now (doc .entry)) k))) ⌝ }
+    ensures { λ r. ⌜ toldLookup r ≡ lookupOf (ask (afterKeys c n first (keys (now (doc .entry)) c n (slot (now (doc .entry)) k)))) ⌝ }
 {
     let f = find_key(doc, a, c, n, SlotOffset(a.index + 4 + 4 * k));
     match f {
@@ -146,7 +146,7 @@ fn look_key(doc: &[u8], a: Areas, c: usize, n: usize, k: usize, first: usize) ->
 
 fn look(doc: &[u8], a: Areas, c: usize, n: usize, key: &[u8]) -> Looked
     requires { ⌜ ObjectAt (now doc) a c n ⌝ }
-    ensures { λ r. ⌜ toldLookup r ≡ ask (quickLookup (now (doc .entry)) c (now (key .entry))) ⌝ }
+    ensures { λ r. ⌜ toldLookup r ≡ lookupOf (ask (quickLookup (now (doc .entry)) c (now (key .entry)))) ⌝ }
 {
     let s = find_string(doc, a, key);
     match s {
@@ -162,9 +162,9 @@ fn look(doc: &[u8], a: Areas, c: usize, n: usize, key: &[u8]) -> Looked
     }
 }
 
-// The quick lookup: the Entry of the member with a key, or absent, with the comparisons of both halvings.
+// The quick lookup: the Entry of the member with a key, or absent, with the comparisons of both halvings; a refusal has 0 and 0.
 pub fn quick_lookup(doc: &[u8], cursor: TreeOffset, key: &[u8]) -> Looked
-    ensures { λ r. ⌜ toldLookup r ≡ ask (quickLookup (now (doc .entry)) (cursor .0) (now (key .entry))) ⌝ }
+    ensures { λ r. ⌜ toldLookup r ≡ lookupOf (ask (quickLookup (now (doc .entry)) (cursor .0) (now (key .entry)))) ⌝ }
 {
     let c = cursor.0;
     let o = binary_json_metas::object_at(doc, c);

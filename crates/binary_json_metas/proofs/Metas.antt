@@ -1,19 +1,21 @@
 -- Questions at a Meta, one law for each way through the code.
 use mathlib.Core.Path.{_≡_, refl, sym, ap, _∙_}
-use mathlib.Core.Bool.{Bool, true, false}
+use mathlib.Core.Bool.{Bool, true, false, _||_}
 use mathlib.Core.List.{List}
 use Prim.Native.Nat.{ℕ, zero, suc, _+_, _*_, _^_, _≤_, _<_}
 use native.Mathlib.Omega.{arith}
 use borrow.Author.Needs.{needs}
-use lib.Dec.{leb, ltb, le→leb, lt→ltb}
+use borrow.Author.Tests.{ne-eqb}
+use lib.Dec.{T, ltb, eqb, le→leb, lt→ltb}
 use lib.ListN.{length}
 use mir.Syntax.{w64}
 use mir.Val.{Fits}
-use Rattle.json.specs.Reading.{Reading, ask, answers, refuses, answer, _>>=_, need}
+use Rattle.json.specs.Choose.{choose}
+use Rattle.json.specs.Reading.{ask, answers, refuses, answer, _>>=_, need}
 use Rattle.json.specs.declared.Refusal.{Refusal}
-use Rattle.json.proofs.Reading.{over, past, then, stops, pass, fail}
-use Rattle.binary_json_rules.specs.Areas.{word, low, high, index, kindOf}
-use Rattle.binary_json_rules.specs.Questions.{body, bodyBy, kindAndSize, elementsBy, element, membersBy, object, memberAt}
+use Rattle.json.proofs.Reading.{eq→eqb, over, past, unlike, then, stops, pass, fail}
+use Rattle.binary_json_rules.specs.Areas.{word, low, high, index}
+use Rattle.binary_json_rules.specs.Questions.{body, bodyWords, kindAndSize, element, object, memberAt}
 use Rattle.binary_json_rules.specs.Answers.{sized}
 use Rattle.binary_json_areas.specs.Laid.{Laid}
 use Rattle.binary_json_areas.specs.Naming.{SlotNamed}
@@ -22,7 +24,6 @@ use Rattle.binary_json_metas.specs.Objects.{ObjectAt, ObjectRead}
 use Rattle.binary_json_areas.specs.declared.areas.Areas.{Areas}
 use Rattle.binary_json_areas.specs.declared.asking.Asking.{Asking}
 use Rattle.binary_json_metas.specs.declared.Object.{Object}
-use Rattle.binary_json_rules.proofs.Cases.{by-kind}
 use Rattle.binary_json_areas.proofs.Openings.{comes-to, stops-before, place-of, meta-inside}
 
 -- the question was refused before its own rules
@@ -59,41 +60,35 @@ module _ (doc : List ℕ) (a : Areas) (c : ℕ) (x : Placed doc a c) (kind n : �
 
   -- ---- kind and size
 
-  to-body : ask (bodyBy doc c n (kindOf kind) >>= λ _. answer (sized kind n)) ≡ ask (kindAndSize doc c)
+  to-body : ask (need (ltb kind 3) 21 c >>= λ _. body doc c (bodyWords kind n) >>= λ _. answer (sized kind n)) ≡ ask (kindAndSize doc c)
   unfolding kindAndSize
   to-body = sym (comes-to doc a c _ x ∙ rw (sym ks, sym ns))
 
   module _ (k1 : kind ≡ 1) where
     pub object-cut : a .index < c + 4 + 4 * (2 * n) → refuses 20 c ≡ ask (kindAndSize doc c)
-    unfolding bodyBy body kindOf
-    object-cut h = sym (rw k1 (fail _ _ _ _ tt (over (rw index-is at h)))) ∙ to-body
+    unfolding body bodyWords choose
+    object-cut h = sym (rw k1 (pass _ _ _ _ tt tt ∙ fail _ _ _ _ tt (over (rw index-is at h)))) ∙ to-body
 
     pub object-sized : c + 4 + 4 * (2 * n) ≤ a .index → answers (sized 1 n) ≡ ask (kindAndSize doc c)
-    unfolding bodyBy body kindOf
-    object-sized h = sym (rw k1 (pass _ _ _ _ tt (le→leb _ _ (rw index-is at h)))) ∙ to-body
-
-  body-over : (k : ℕ) → 2 < k → ask (bodyBy doc c n (kindOf k) >>= λ _. answer (sized k n)) ≡ refuses 21 c
-  unfolding bodyBy
-  body-over =
-      by-kind (λ k t. 2 < k → ask (bodyBy doc c n t >>= λ _. answer (sized k n)) ≡ refuses 21 c) (λ h. absurd (omega arith)) (λ h. absurd (omega arith)) (λ h. absurd (omega arith)) (λ k h. stops _ _ tt refl)
+    unfolding body bodyWords choose
+    object-sized h = sym (rw k1 (pass _ _ _ _ tt tt ∙ pass _ _ _ _ tt (le→leb _ _ (rw index-is at h)))) ∙ to-body
 
   pub kind-over : 2 < kind → refuses 21 c ≡ ask (kindAndSize doc c)
-  kind-over h = sym (body-over kind h) ∙ to-body
-
-  body-of : (k : ℕ) → (k ≡ 1 → ⊥) → k ≤ 2 → ask (bodyBy doc c n (kindOf k) >>= λ _. answer (sized k n)) ≡ ask (body doc c n >>= λ _. answer (sized k n))
-  unfolding bodyBy
-  body-of =
-      by-kind (λ k t. (k ≡ 1 → ⊥) → k ≤ 2 → ask (bodyBy doc c n t >>= λ _. answer (sized k n)) ≡ ask (body doc c n >>= λ _. answer (sized k n))) (λ p h. refl) (λ p h. absurd (p refl)) (λ p h. refl) (λ k p h. absurd (omega arith))
+  kind-over h = sym (fail _ _ _ _ tt (past h)) ∙ to-body
 
   module _ (p : kind ≡ 1 → ⊥) (low-kind : kind ≤ 2) where
+    to-entries : ask (body doc c n >>= λ _. answer (sized kind n)) ≡ ask (kindAndSize doc c)
+    unfolding bodyWords choose
+    to-entries = sym (pass _ _ _ _ tt (lt→ltb kind 3 (omega arith)) ∙ rw (ne-eqb kind 1 p)) ∙ to-body
+
     pub body-cut : a .index < c + 4 + 4 * n → refuses 20 c ≡ ask (kindAndSize doc c)
     unfolding body
-    body-cut h = sym (body-of kind p low-kind ∙ fail _ _ _ _ tt (over (rw index-is at h))) ∙ to-body
+    body-cut h = sym (fail _ _ _ _ tt (over (rw index-is at h))) ∙ to-entries
 
     module _ (fits : c + 4 + 4 * n ≤ a .index) where
       sized-is : answers (sized kind n) ≡ ask (kindAndSize doc c)
       unfolding body
-      sized-is = sym (body-of kind p low-kind ∙ pass _ _ _ _ tt (le→leb _ _ (rw index-is at fits))) ∙ to-body
+      sized-is = sym (pass _ _ _ _ tt (le→leb _ _ (rw index-is at fits))) ∙ to-entries
 
       pub array-sized : kind ≡ 0 → answers (sized 0 n) ≡ ask (kindAndSize doc c)
       array-sized e = ap (λ k. answers (sized k n)) (sym e) ∙ sized-is
@@ -103,42 +98,38 @@ module _ (doc : List ℕ) (a : Areas) (c : ℕ) (x : Placed doc a c) (kind n : �
 
   -- ---- element i
 
+  has-elements : (k : ℕ) → (k ≡ 1 → ⊥) → k ≤ 2 → T (eqb k 0 || eqb k 2)
+  has-elements zero p h = tt
+  has-elements (suc zero) p h = absurd (p refl)
+  has-elements (suc (suc zero)) p h = tt
+  has-elements (suc (suc (suc k))) p h = absurd (omega arith)
+
   module _ (i : ℕ) where
-    to-elements : ask (elementsBy doc c n (kindOf kind) >>= λ _. need (ltb i n) 22 c >>= λ _. answer (c + 4 + 4 * i)) ≡ ask (element doc c i)
+    to-elements : ask (need (eqb kind 0 || eqb kind 2) 21 c >>= λ _. body doc c n >>= λ _. need (ltb i n) 22 c >>= λ _. answer (c + 4 + 4 * i)) ≡ ask (element doc c i)
     unfolding element
     to-elements = sym (comes-to doc a c _ x ∙ rw (sym ks, sym ns))
 
-    elements-over : (f : Unit {0} → Reading (Unit {0}) ℕ) (k : ℕ) → 2 < k → ask (elementsBy doc c n (kindOf k) >>= f) ≡ refuses 21 c
-    unfolding elementsBy
-    elements-over f =
-        by-kind (λ k t. 2 < k → ask (elementsBy doc c n t >>= f) ≡ refuses 21 c) (λ h. absurd (omega arith)) (λ h. absurd (omega arith)) (λ h. absurd (omega arith)) (λ k h. stops _ _ tt refl)
-
-    elements-of : (f : Unit {0} → Reading (Unit {0}) ℕ) (k : ℕ) → (k ≡ 1 → ⊥) → k ≤ 2 → ask (elementsBy doc c n (kindOf k) >>= f) ≡ ask (body doc c n >>= f)
-    unfolding elementsBy
-    elements-of f =
-        by-kind (λ k t. (k ≡ 1 → ⊥) → k ≤ 2 → ask (elementsBy doc c n t >>= f) ≡ ask (body doc c n >>= f)) (λ p h. refl) (λ p h. absurd (p refl)) (λ p h. refl) (λ k p h. absurd (omega arith))
-
     pub element-of-object : kind ≡ 1 → refuses 21 c ≡ ask (element doc c i)
-    unfolding elementsBy kindOf
-    element-of-object e = sym (rw e (stops _ _ tt refl)) ∙ to-elements
+    element-of-object e = sym (fail _ _ _ _ tt (rw e (λ t. t))) ∙ to-elements
 
     pub element-of-other : 2 < kind → refuses 21 c ≡ ask (element doc c i)
-    element-of-other h = sym (elements-over _ kind h) ∙ to-elements
+    element-of-other h = sym (fail _ _ _ _ tt (rw (ne-eqb kind 0 (λ q. omega arith), ne-eqb kind 2 (λ q. omega arith)) (λ t. t))) ∙ to-elements
 
     module _ (p : kind ≡ 1 → ⊥) (low-kind : kind ≤ 2) where
       pub elements-cut : a .index < c + 4 + 4 * n → refuses 20 c ≡ ask (element doc c i)
       unfolding body
-      elements-cut h = sym (elements-of _ kind p low-kind ∙ fail _ _ _ _ tt (over (rw index-is at h))) ∙ to-elements
+      elements-cut h = sym (pass _ _ _ _ tt (has-elements kind p low-kind) ∙ fail _ _ _ _ tt (over (rw index-is at h))) ∙ to-elements
 
       module _ (fits : c + 4 + 4 * n ≤ a .index) where
-        pub element-past : n ≤ i → refuses 22 c ≡ ask (element doc c i)
+        to-element : ask (need (ltb i n) 22 c >>= λ _. answer (c + 4 + 4 * i)) ≡ ask (element doc c i)
         unfolding body
-        element-past h =
-            sym (elements-of _ kind p low-kind ∙ (pass _ _ _ _ tt (le→leb _ _ (rw index-is at fits)) ∙ fail _ _ _ _ tt (past h))) ∙ to-elements
+        to-element = sym (pass _ _ _ _ tt (has-elements kind p low-kind) ∙ pass _ _ _ _ tt (le→leb _ _ (rw index-is at fits))) ∙ to-elements
+
+        pub element-past : n ≤ i → refuses 22 c ≡ ask (element doc c i)
+        element-past h = sym (fail _ _ _ _ tt (past h)) ∙ to-element
 
         pub element-found : i < n → answers (c + 4 + 4 * i) ≡ ask (element doc c i)
-        unfolding body
-        element-found h = sym (elements-of _ kind p low-kind ∙ (pass _ _ _ _ tt (le→leb _ _ (rw index-is at fits)) ∙ pass _ _ _ _ tt (lt→ltb _ _ h))) ∙ to-elements
+        element-found h = sym (pass _ _ _ _ tt (lt→ltb _ _ h)) ∙ to-element
 
 pub element-fits : (doc : List ℕ) (a : Areas) (c : ℕ) (n i : ℕ) → Placed doc a c → c + 4 + 4 * n ≤ a .index → i < n → Fits w64 (c + 4 + 4 * i)
 element-fits doc a c n i x h b = let s = x .open-at .laid .framed .slots-inside in let l = x .open-at .laid .framed .short in omega arith
@@ -163,28 +154,23 @@ module _ (doc : List ℕ) (c : ℕ) (p : Asking) (y : Places doc c p) (a : Areas
   members-fit n h = object-fits doc a c (place-of doc c p y a e) n h
 
   module _ (kind n : ℕ) (ks : kind ≡ low doc c) (ns : n ≡ high doc c) where
-    to-members : ask (membersBy doc c n (kindOf kind) >>= λ _. answer n) ≡ ask (object doc c)
+    to-members : ask (need (eqb kind 1) 21 c >>= λ _. body doc c (2 * n) >>= λ _. answer n) ≡ ask (object doc c)
     unfolding object
     to-members = sym (comes-to doc a c _ (place-of doc c p y a e) ∙ rw (sym ks, sym ns))
 
-    other : (k : ℕ) → (k ≡ 1 → ⊥) → ask (membersBy doc c n (kindOf k) >>= λ _. answer n) ≡ refuses 21 c
-    unfolding membersBy
-    other =
-        by-kind (λ k t. (k ≡ 1 → ⊥) → ask (membersBy doc c n t >>= λ _. answer n) ≡ refuses 21 c) (λ q. stops _ _ tt refl) (λ q. absurd (q refl)) (λ q. stops _ _ tt refl) (λ k q. stops _ _ tt refl)
-
     pub no-object : (kind ≡ 1 → ⊥) → ask (object doc c) ≡ refuses 21 c
-    no-object q = sym to-members ∙ other kind q
+    no-object q = sym to-members ∙ fail _ _ _ _ tt (unlike q)
 
     module _ (k1 : kind ≡ 1) where
       pub members-cut : a .index < c + 4 + 4 * (2 * n) → ask (object doc c) ≡ refuses 20 c
-      unfolding membersBy body kindOf
-      members-cut h = sym to-members ∙ rw k1 (fail _ _ _ _ tt (over (rw (place-of doc c p y a e .open-at .laid .framed .index-is) at h)))
+      unfolding body
+      members-cut h = sym to-members ∙ (pass _ _ _ _ tt (eq→eqb k1) ∙ fail _ _ _ _ tt (over (rw (place-of doc c p y a e .open-at .laid .framed .index-is) at h)))
 
       pub an-object : c + 4 + 4 * (2 * n) ≤ a .index → ObjectAt doc a c n
-      unfolding membersBy body kindOf
+      unfolding body
       an-object h = record {
         laid = place-of doc c p y a e .open-at .laid;
-        answered = sym to-members ∙ rw k1 (pass _ _ _ _ tt (le→leb _ _ (rw (place-of doc c p y a e .open-at .laid .framed .index-is) at h)));
+        answered = sym to-members ∙ (pass _ _ _ _ tt (eq→eqb k1) ∙ pass _ _ _ _ tt (le→leb _ _ (rw (place-of doc c p y a e .open-at .laid .framed .index-is) at h)));
         inside = h;
       }
 

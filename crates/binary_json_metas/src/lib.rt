@@ -94,7 +94,7 @@ fn element_at(doc: &[u8], a: Areas, c: usize, i: usize) -> TreeAt
     TreeAt::At(TreeOffset(c + 4 + 4 * i))
 }
 
-// The Entry that is element i of the array at the cursor.
+// The Entry that is element i of the array or top-level scalar at the cursor.
 pub fn element(doc: &[u8], cursor: TreeOffset, i: usize) -> TreeAt
     ensures { λ r. ⌜ toldTree r ≡ ask (element (now (doc .entry)) (cursor .0) i) ⌝ }
 {

@@ -1,12 +1,13 @@
 -- Questions put to a container or an Entry of a good document are answered from the tree that it stands for.
 use mathlib.Core.Path.{_≡_, refl, _∙_}
-use mathlib.Core.Bool.{Bool, true, false}
+use mathlib.Core.Bool.{Bool, true, false, _||_}
 use mathlib.Core.List.{List}
 use Prim.Native.Nat.{ℕ, zero, suc, _+_, _-_, _*_, _≤_, _<_}
 use native.Mathlib.Omega.{arith}
 use native.Mathlib.Decide.{ℕ-discrete}
-use lib.Dec.{ltb, leb, le→leb, lt→ltb}
+use lib.Dec.{T, ltb, eqb, le→leb, lt→ltb}
 use lib.ListN.{length}
+use Rattle.json.specs.Choose.{choose}
 use Rattle.json.specs.Reading.{Reading, answer, ask, answers, refuses, _>>=_, need}
 use Rattle.json.specs.Bytes.{number, part}
 use Rattle.json.specs.Span.{Span}
@@ -14,7 +15,7 @@ use Rattle.json.specs.Tree.{Tree, null, bool, num, str, arr, obj, Trees, Member
 use Rattle.json.proofs.Reading.{eq→eqb, past, then, stops, pass, fail, need-yes}
 use Rattle.binary_json_rules.specs.Areas.{word, low, high, index, count, slot, text, content, numbers, Kind, kArray, kObject, kScalar, kOther, kindOf, EntryType, tFalse, tTrue, tNull, tString, tNumber, tContainer, tOther, typeOf}
 use Rattle.binary_json_rules.specs.Meaning.{SlotIs, Meta, EntryIs, MembersAre, ContainerIs, Means}
-use Rattle.binary_json_rules.specs.Questions.{opening, treeWord, body, bodyBy, kindAndSize, elementsBy, element, membersBy, object, keyEntryOf, entryOf, memberAt, slotRead, textNamed, slotText, slotBytes, typeBy, entryType, isContainer, isString, isNumber, containerAt, stringAt, numberAt}
+use Rattle.binary_json_rules.specs.Questions.{opening, treeWord, body, bodyWords, kindAndSize, element, object, keyEntryOf, entryOf, memberAt, slotRead, textNamed, slotText, slotBytes, entryType, containerAt, stringAt, numberAt}
 use Rattle.binary_json_rules.specs.Answers.{sized, sizedAs, typedAs}
 use Rattle.binary_json_rules.proofs.Complete.{slot-named, number-named, header-done}
 use Rattle.binary_json_rules.proofs.Trees.{slot-at}
@@ -38,6 +39,9 @@ Known kOther = ⊥
 kind-number : (n : ℕ) → Known (kindOf n) → n ≡ kindNumber (kindOf n)
 kind-number = by-kind (λ n k. Known k → n ≡ kindNumber k) (λ o. refl) (λ o. refl) (λ o. refl) (λ n o. absurd o)
 
+kind-is : (doc : List ℕ) (c n w : ℕ) (k : Kind) → Known k → Meta doc c k n w → low doc c ≡ kindNumber k
+kind-is doc c n w k o h = (rw (h .kind-is) at (kind-number (low doc c))) o
+
 abbrev typeNumber : EntryType → ℕ
 typeNumber tFalse = 0
 typeNumber tTrue = 1
@@ -59,10 +63,24 @@ KnownType tOther = ⊥
 type-number : (n : ℕ) → KnownType (typeOf n) → n ≡ typeNumber (typeOf n)
 type-number = by-type (λ n k. KnownType k → n ≡ typeNumber k) (λ o. refl) (λ o. refl) (λ o. refl) (λ o. refl) (λ o. refl) (λ o. refl) (λ n o. absurd o)
 
+type-is : (doc : List ℕ) (a : ℕ) (k : EntryType) → KnownType k → typeOf (low doc a) ≡ k → low doc a ≡ typeNumber k
+type-is doc a k o e = (rw e at (type-number (low doc a))) o
+
+-- the type that an Entry has, from what it stands for
+typed : (doc : List ℕ) (a : ℕ) (v : Tree) → EntryIs doc v a → low doc a ≡ typedAs v
+unfolding typedAs
+typed doc a null h = type-is doc a tNull tt h
+typed doc a (bool false) h = type-is doc a tFalse tt h
+typed doc a (bool true) h = type-is doc a tTrue tt h
+typed doc a (num s x) h = type-is doc a tNumber tt (h .1)
+typed doc a (str s) h = type-is doc a tString tt (h .1)
+typed doc a (arr ts) h = type-is doc a tContainer tt (h .0)
+typed doc a (obj ms) h = type-is doc a tContainer tt (h .0)
+
 module _ (doc : List ℕ) (t : Tree) (m : Means doc t) where
   -- ---- the areas
 
-  -- texts stand one behind the other, inside the document
+  -- texts stand one after the other, inside the document
   pub texts-rise : (k j : ℕ) → j ≤ k → k ≤ count doc → text doc j ≤ text doc k
   texts-rise zero j h b = let e : j ≡ 0 = omega arith in rw e (omega arith)
   texts-rise (suc k) j h b =
@@ -102,50 +120,46 @@ module _ (doc : List ℕ) (t : Tree) (m : Means doc t) where
 
   -- ---- kind and size
 
-  kind-by : (c n w : ℕ) (k : Kind) → Known k → Meta doc c k n w → Aligned c → (ask (bodyBy doc c n k) ≡ ask (need (leb (c + 4 + 4 * w) (index doc)) 20 c))
+  kind-by : (c n w : ℕ) (k : Kind) → Known k → Meta doc c k n w → Aligned c → T (ltb (kindNumber k) 3) → bodyWords (kindNumber k) n ≡ w
       → ask (kindAndSize doc c) ≡ answers (sized (kindNumber k) n)
-  unfolding kindAndSize
-  kind-by c n w k o h z b =
+  unfolding kindAndSize body
+  kind-by c n w k o h z b e =
       let fits = h .inside in
-      comes-to c _ z (omega arith)
-      ∙ rw (h .kind-is, h .size-is) (then _ _ tt (b ∙ need-yes _ _ _ tt (le→leb _ _ fits)) ∙ rw ((rw (h .kind-is) at (kind-number (low doc c))) o))
+      comes-to c _ z (omega arith) ∙ rw (kind-is doc c n w k o h, h .size-is, e) (pass _ _ _ _ tt b ∙ pass _ _ _ _ tt (le→leb _ _ fits))
 
   pub kind-answer : (c : ℕ) (u : Tree) → ContainerIs doc u c → Aligned c → ask (kindAndSize doc c) ≡ answers (sizedAs u)
-  unfolding bodyBy body sizedAs
-  kind-answer c null h z = kind-by c 1 1 kScalar tt (h .0) z refl
-  kind-answer c (bool b) h z = kind-by c 1 1 kScalar tt (h .0) z refl
-  kind-answer c (num s n) h z = kind-by c 1 1 kScalar tt (h .0) z refl
-  kind-answer c (str s) h z = kind-by c 1 1 kScalar tt (h .0) z refl
-  kind-answer c (arr ts) h z = kind-by c (size ts) (size ts) kArray tt (h .0) z refl
-  kind-answer c (obj ms) h z = kind-by c (sizem ms) (2 * sizem ms) kObject tt (h .0) z refl
+  unfolding bodyWords choose sizedAs
+  kind-answer c null h z = kind-by c 1 1 kScalar tt (h .0) z tt refl
+  kind-answer c (bool b) h z = kind-by c 1 1 kScalar tt (h .0) z tt refl
+  kind-answer c (num s n) h z = kind-by c 1 1 kScalar tt (h .0) z tt refl
+  kind-answer c (str s) h z = kind-by c 1 1 kScalar tt (h .0) z tt refl
+  kind-answer c (arr ts) h z = kind-by c (size ts) (size ts) kArray tt (h .0) z tt refl
+  kind-answer c (obj ms) h z = kind-by c (sizem ms) (2 * sizem ms) kObject tt (h .0) z tt refl
 
   -- ---- element i
 
-  elements : (c i n : ℕ) (k : Kind) → Meta doc c k n n → Aligned c → (ask (elementsBy doc c n k) ≡ ask (need (leb (c + 4 + 4 * n) (index doc)) 20 c))
+  elements : (c i n : ℕ) (k : Kind) → Known k → Meta doc c k n n → Aligned c → T (eqb (kindNumber k) 0 || eqb (kindNumber k) 2)
       → ask (element doc c i) ≡ ask (need (ltb i n) 22 c >>= λ _. answer (c + 4 + 4 * i))
-  unfolding element
-  elements c i n k h z b =
+  unfolding element body
+  elements c i n k o h z b =
       let fits = h .inside in
-      comes-to c _ z (omega arith) ∙ rw (h .kind-is, h .size-is) (then _ _ tt (b ∙ need-yes _ _ _ tt (le→leb _ _ fits)))
+      comes-to c _ z (omega arith) ∙ rw (kind-is doc c n n k o h, h .size-is) (pass _ _ _ _ tt b ∙ pass _ _ _ _ tt (le→leb _ _ fits))
 
   pub element-answer : (c i : ℕ) (ts : Trees) → ContainerIs doc (arr ts) c → Aligned c → i < size ts → ask (element doc c i) ≡ answers (c + 4 + 4 * i)
-  unfolding elementsBy body
-  element-answer c i ts h z b = elements c i (size ts) kArray (h .0) z refl ∙ pass _ _ _ _ tt (lt→ltb _ _ b)
+  element-answer c i ts h z b = elements c i (size ts) kArray tt (h .0) z tt ∙ pass _ _ _ _ tt (lt→ltb _ _ b)
 
   pub element-past : (c i : ℕ) (ts : Trees) → ContainerIs doc (arr ts) c → Aligned c → size ts ≤ i → ask (element doc c i) ≡ refuses 22 c
-  unfolding elementsBy body
-  element-past c i ts h z b = elements c i (size ts) kArray (h .0) z refl ∙ fail _ _ _ _ tt (past b)
+  element-past c i ts h z b = elements c i (size ts) kArray tt (h .0) z tt ∙ fail _ _ _ _ tt (past b)
 
   pub element-wrong : (c i : ℕ) (ms : Members) → ContainerIs doc (obj ms) c → Aligned c → ask (element doc c i) ≡ refuses 21 c
-  unfolding element elementsBy
+  unfolding element
   element-wrong c i ms h z =
       let fits = h .0 .inside in
-      comes-to c _ z (omega arith) ∙ rw (h .0 .kind-is) (stops _ _ tt refl)
+      comes-to c _ z (omega arith) ∙ rw (kind-is doc c _ _ kObject tt (h .0)) (fail _ _ _ _ tt (λ t. t))
 
   -- a scalar alone is element 0
   scalar-by : (c i : ℕ) → Meta doc c kScalar 1 1 → Aligned c → ask (element doc c i) ≡ ask (need (ltb i 1) 22 c >>= λ _. answer (c + 4 + 4 * i))
-  unfolding elementsBy body
-  scalar-by c i h z = elements c i 1 kScalar h z refl
+  scalar-by c i h z = elements c i 1 kScalar tt h z tt
 
   pub scalar-answer : (c : ℕ) (u : Tree) → NoContainer u → ContainerIs doc u c → Aligned c → ask (element doc c 0) ≡ answers (c + 4)
   scalar-answer c u n h z =
@@ -158,23 +172,22 @@ module _ (doc : List ℕ) (t : Tree) (m : Means doc t) where
   -- ---- objects: member j, and what both lookups begin with
 
   pub object-answer : (c : ℕ) (ms : Members) → ContainerIs doc (obj ms) c → Aligned c → ask (object doc c) ≡ answers (sizem ms)
-  unfolding object membersBy body
+  unfolding object body
   object-answer c ms h z =
       let fits = h .0 .inside in
-      comes-to c _ z (omega arith) ∙ rw (h .0 .kind-is, h .0 .size-is) (pass _ _ _ _ tt (le→leb _ _ fits))
+      comes-to c _ z (omega arith) ∙ rw (kind-is doc c _ _ kObject tt (h .0), h .0 .size-is) (pass _ _ _ _ tt tt ∙ pass _ _ _ _ tt (le→leb _ _ fits))
 
-  other-kind : (c : ℕ) (u : Tree) → NoObject u → ContainerIs doc u c → ask (membersBy doc c (high doc c) (kindOf (low doc c))) ≡ refuses 21 c
-  unfolding membersBy
-  other-kind c null n h = rw (h .0 .kind-is)
-  other-kind c (bool b) n h = rw (h .0 .kind-is)
-  other-kind c (num s x) n h = rw (h .0 .kind-is)
-  other-kind c (str s) n h = rw (h .0 .kind-is)
-  other-kind c (arr ts) n h = rw (h .0 .kind-is)
+  other-kind : (c : ℕ) (u : Tree) → NoObject u → ContainerIs doc u c → T (eqb (low doc c) 1) → ⊥
+  other-kind c null n h = rw (kind-is doc c 1 1 kScalar tt (h .0)) (λ t. t)
+  other-kind c (bool b) n h = rw (kind-is doc c 1 1 kScalar tt (h .0)) (λ t. t)
+  other-kind c (num s x) n h = rw (kind-is doc c 1 1 kScalar tt (h .0)) (λ t. t)
+  other-kind c (str s) n h = rw (kind-is doc c 1 1 kScalar tt (h .0)) (λ t. t)
+  other-kind c (arr ts) n h = rw (kind-is doc c _ _ kArray tt (h .0)) (λ t. t)
   other-kind c (obj ms) n h = absurd (n ms refl)
 
   pub object-wrong : (c : ℕ) (u : Tree) → NoObject u → ContainerIs doc u c → Aligned c → ask (object doc c) ≡ refuses 21 c
   unfolding object
-  object-wrong c u n h z = comes-to c _ z (body-inside u c h) ∙ stops _ _ tt (other-kind c u n h)
+  object-wrong c u n h z = comes-to c _ z (body-inside u c h) ∙ fail _ _ _ _ tt (other-kind c u n h)
 
   -- KeyEntry j is the offset of the slot whose text is the key of member j
   pub key-slot : (ms : Members) (j p q a : ℕ) (x : List ℕ) (v : Tree) → MembersAre doc ms p q a → MemberIs ms j x v
@@ -232,39 +245,19 @@ module _ (doc : List ℕ) (t : Tree) (m : Means doc t) where
 
   -- ---- Entries
 
-  type-by : (a : ℕ) (k : EntryType) → KnownType k → typeOf (low doc a) ≡ k → Aligned a → a + 4 ≤ index doc → ask (typeBy a (typeNumber k) k) ≡ answers (typeNumber k)
-      → ask (entryType doc a) ≡ answers (typeNumber k)
-  unfolding entryType
-  type-by a k o e z i h = comes-to a _ z i ∙ rw (e, (rw e at (type-number (low doc a))) o) h
+  known-type : (v : Tree) → T (ltb (typedAs v) 6)
+  unfolding typedAs
+  known-type null = tt
+  known-type (bool false) = tt
+  known-type (bool true) = tt
+  known-type (num s x) = tt
+  known-type (str s) = tt
+  known-type (arr ts) = tt
+  known-type (obj ms) = tt
 
   pub type-answer : (a : ℕ) (v : Tree) → EntryIs doc v a → Aligned a → a + 4 ≤ index doc → ask (entryType doc a) ≡ answers (typedAs v)
-  unfolding typeBy typedAs
-  type-answer a null h z i = type-by a tNull tt h z i refl
-  type-answer a (bool false) h z i = type-by a tFalse tt h z i refl
-  type-answer a (bool true) h z i = type-by a tTrue tt h z i refl
-  type-answer a (num s x) h z i = type-by a tNumber tt (h .1) z i refl
-  type-answer a (str s) h z i = type-by a tString tt (h .1) z i refl
-  type-answer a (arr ts) h z i = type-by a tContainer tt (h .0) z i refl
-  type-answer a (obj ms) h z i = type-by a tContainer tt (h .0) z i refl
-
-  -- the type that an Entry has, from what it stands for
-  abbrev typeFor : Tree → EntryType
-  typeFor null = tNull
-  typeFor (bool false) = tFalse
-  typeFor (bool true) = tTrue
-  typeFor (num s x) = tNumber
-  typeFor (str s) = tString
-  typeFor (arr ts) = tContainer
-  typeFor (obj ms) = tContainer
-
-  typed : (a : ℕ) (v : Tree) → EntryIs doc v a → typeOf (low doc a) ≡ typeFor v
-  typed a null h = h
-  typed a (bool false) h = h
-  typed a (bool true) h = h
-  typed a (num s x) h = h .1
-  typed a (str s) h = h .1
-  typed a (arr ts) h = h .0
-  typed a (obj ms) h = h .0
+  unfolding entryType
+  type-answer a v h z i = comes-to a _ z i ∙ rw (typed doc a v h) (pass _ _ _ _ tt (known-type v))
 
   -- the container of an Entry
 
@@ -277,60 +270,62 @@ module _ (doc : List ℕ) (t : Tree) (m : Means doc t) where
   container-named a (obj ms) n h = h
 
   pub container-answer : (a : ℕ) (v : Tree) → IsContainer v → EntryIs doc v a → Aligned a → a + 4 ≤ index doc → Aligned (high doc a) → ask (containerAt doc a) ≡ answers (high doc a)
-  unfolding containerAt isContainer
+  unfolding containerAt
   container-answer a v n h z i y =
-      comes-to a _ z i ∙ rw (container-named a v n h .0) (then _ _ tt refl ∙ then _ _ tt (word-in (high doc a) a y (body-inside v (high doc a) (container-named a v n h .1))))
+      let (e, is) = container-named a v n h in
+      comes-to a _ z i ∙ (pass _ _ _ _ tt (eq→eqb (type-is doc a tContainer tt e)) ∙ then _ _ tt (word-in (high doc a) a y (body-inside v (high doc a) is)))
 
-  no-container : (a : ℕ) (v : Tree) → NoContainer v → ask (isContainer a (typeFor v)) ≡ refuses 21 a
-  unfolding isContainer
-  no-container a null n = refl
-  no-container a (bool false) n = refl
-  no-container a (bool true) n = refl
-  no-container a (num s x) n = refl
-  no-container a (str s) n = refl
-  no-container a (arr ts) n = absurd (n tt)
-  no-container a (obj ms) n = absurd (n tt)
+  no-container : (v : Tree) → NoContainer v → T (eqb (typedAs v) 5) → ⊥
+  unfolding typedAs
+  no-container null n t = t
+  no-container (bool false) n t = t
+  no-container (bool true) n t = t
+  no-container (num s x) n t = t
+  no-container (str s) n t = t
+  no-container (arr ts) n t = n tt
+  no-container (obj ms) n t = n tt
 
   pub container-wrong : (a : ℕ) (v : Tree) → NoContainer v → EntryIs doc v a → Aligned a → a + 4 ≤ index doc → ask (containerAt doc a) ≡ refuses 21 a
   unfolding containerAt
-  container-wrong a v n h z i = comes-to a _ z i ∙ rw (typed a v h) (stops _ _ tt (no-container a v n))
+  container-wrong a v n h z i = comes-to a _ z i ∙ rw (typed doc a v h) (fail _ _ _ _ tt (no-container v n))
 
   -- the string of an Entry
 
   pub string-answer : (a : ℕ) (s : List ℕ) (h : EntryIs doc (str s) a) → Aligned a → a + 4 ≤ index doc → ask (stringAt doc a) ≡ answers (spanOf (h .0))
-  unfolding stringAt isString
-  string-answer a s h z i = comes-to a _ z i ∙ rw (h .1) (then _ _ tt refl ∙ text-named (high doc a) (h .0) a (h .2))
+  unfolding stringAt
+  string-answer a s h z i = comes-to a _ z i ∙ (pass _ _ _ _ tt (eq→eqb (type-is doc a tString tt (h .1))) ∙ text-named (high doc a) (h .0) a (h .2))
 
-  no-string : (a : ℕ) (v : Tree) → NoString v → ask (isString a (typeFor v)) ≡ refuses 21 a
-  unfolding isString
-  no-string a null n = refl
-  no-string a (bool false) n = refl
-  no-string a (bool true) n = refl
-  no-string a (num s x) n = refl
-  no-string a (str s) n = absurd (n s refl)
-  no-string a (arr ts) n = refl
-  no-string a (obj ms) n = refl
+  no-string : (v : Tree) → NoString v → T (eqb (typedAs v) 3) → ⊥
+  unfolding typedAs
+  no-string null n t = t
+  no-string (bool false) n t = t
+  no-string (bool true) n t = t
+  no-string (num s x) n t = t
+  no-string (str s) n t = n s refl
+  no-string (arr ts) n t = t
+  no-string (obj ms) n t = t
 
   pub string-wrong : (a : ℕ) (v : Tree) → NoString v → EntryIs doc v a → Aligned a → a + 4 ≤ index doc → ask (stringAt doc a) ≡ refuses 21 a
   unfolding stringAt
-  string-wrong a v n h z i = comes-to a _ z i ∙ rw (typed a v h) (stops _ _ tt (no-string a v n))
+  string-wrong a v n h z i = comes-to a _ z i ∙ rw (typed doc a v h) (fail _ _ _ _ tt (no-string v n))
 
   -- the number of an Entry
 
   pub number-answer : (a : ℕ) (x : Bool) (n : ℕ) → EntryIs doc (num x n) a → Aligned a → a + 4 ≤ index doc → ask (numberAt doc a) ≡ answers (number doc (high doc a) 8)
-  unfolding numberAt isNumber
-  number-answer a x n h z i = comes-to a _ z i ∙ rw (h .1) (then _ _ tt refl ∙ then _ _ tt (number-named doc tt (high doc a) 20 a (h .0) (h .2) (h .3)))
+  unfolding numberAt
+  number-answer a x n h z i =
+      comes-to a _ z i ∙ (pass _ _ _ _ tt (eq→eqb (type-is doc a tNumber tt (h .1))) ∙ then _ _ tt (number-named doc tt (high doc a) 20 a (h .0) (h .2) (h .3)))
 
-  no-number : (a : ℕ) (v : Tree) → NoNumber v → ask (isNumber a (typeFor v)) ≡ refuses 21 a
-  unfolding isNumber
-  no-number a null n = refl
-  no-number a (bool false) n = refl
-  no-number a (bool true) n = refl
-  no-number a (num s x) n = absurd (n s x refl)
-  no-number a (str s) n = refl
-  no-number a (arr ts) n = refl
-  no-number a (obj ms) n = refl
+  no-number : (v : Tree) → NoNumber v → T (eqb (typedAs v) 4) → ⊥
+  unfolding typedAs
+  no-number null n t = t
+  no-number (bool false) n t = t
+  no-number (bool true) n t = t
+  no-number (num s x) n t = n s x refl
+  no-number (str s) n t = t
+  no-number (arr ts) n t = t
+  no-number (obj ms) n t = t
 
   pub number-wrong : (a : ℕ) (v : Tree) → NoNumber v → EntryIs doc v a → Aligned a → a + 4 ≤ index doc → ask (numberAt doc a) ≡ refuses 21 a
   unfolding numberAt
-  number-wrong a v n h z i = comes-to a _ z i ∙ rw (typed a v h) (stops _ _ tt (no-number a v n))
+  number-wrong a v n h z i = comes-to a _ z i ∙ rw (typed doc a v h) (fail _ _ _ _ tt (no-number v n))

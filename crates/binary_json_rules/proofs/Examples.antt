@@ -15,9 +15,9 @@ use Rattle.json.specs.Texts.{byNumbers, compareTexts}
 use Rattle.json.proofs.Reading.{stops, pass, fail}
 use Rattle.binary_json_rules.specs.Areas.{index, count, slot, text, content, numbers, kindOf, typeOf}
 use Rattle.binary_json_rules.specs.Verdict.{header, ascends, slotRules, slots, slotNamed, numberNamed, keyEntries, entryBy, entry, entries, containerBy, container, scalar, rootBy, check, verdict}
-use Rattle.binary_json_rules.specs.Questions.{opening, treeWord, body, bodyBy, kindAndSize, elementsBy, element, membersBy, object, memberAt, slotRead, textNamed, slotText, typeBy, entryType, isContainer, isString, isNumber, containerAt, stringAt, numberAt}
+use Rattle.binary_json_rules.specs.Questions.{opening, treeWord, body, bodyWords, kindAndSize, element, object, memberAt, slotRead, textNamed, slotText, entryType, containerAt, stringAt, numberAt}
 use Rattle.binary_json_rules.specs.Halving.{turn, halveIf, halveFrom, halve}
-use Rattle.binary_json_rules.specs.Lookup.{absent, counted, afterKeys, afterStrings, quickLookup, scanFrom, plainScan}
+use Rattle.binary_json_rules.specs.Lookup.{absent, counted, afterKeys, afterStrings, quickLookup, lookup, lookupOf, scanFrom, plainScan}
 use Rattle.binary_json_rules.specs.Lookup as Lookup
 use Rattle.binary_json_rules.specs.Answers.{sized}
 
@@ -61,7 +61,7 @@ checks =
     says (hex 20 0x0102000042000000000000000000000000000000) (refuses 8 4) ∷
     says (hex 12 0x010100002200000000000000) (refuses 8 4) ∷
     says (hex 24 0x810200002000000085010000220000000000000000000000) (refuses 8 12) ∷
-    -- 9: type 6; a string below, between and behind the slots
+    -- 9: type 6; a string below, between and after the slots
     says (hex 16 0x81010000200000000600000000000000) (refuses 9 8) ∷
     says (hex 21 0x81010000200000008301000001000000A002000000) (refuses 9 8) ∷
     says (hex 21 0x81010000200000004302000001000000A002000000) (refuses 9 8) ∷
@@ -193,11 +193,11 @@ pub questions-say :
     × (ask (plainScan (hex 40 0x010300004100000020000000E7030000010000000200000002000000C00400000005000061006200) 4 (97 ∷ [])) ≡ refuses 20 4)
     × (ask (quickLookup (hex 40 0x01030000410000002000000020000000010000000200000002000000C00400000005000061006200) 4 (98 ∷ [])) ≡ answers (counted (Lookup.entry 20) 1 1))
     × (ask (plainScan (hex 40 0x01030000410000002000000020000000010000000200000002000000C00400000005000061006200) 4 (98 ∷ [])) ≡ answers (Lookup.entry 16))
-    -- a slot is read when it is compared
+    -- a slot is read when it is compared; a refusal has the counts 0 and 0
     × (ask (quickLookup (hex 36 0x01020000210000001C000000010000000300000000040000400400008004000062006300) 4 (99 ∷ [])) ≡ answers (counted (Lookup.entry 12) 2 1))
-    × (ask (quickLookup (hex 36 0x01020000210000001C000000010000000300000000040000400400008004000062006300) 4 (97 ∷ [])) ≡ refuses 20 4)
+    × (lookupOf (ask (quickLookup (hex 36 0x01020000210000001C000000010000000300000000040000400400008004000062006300) 4 (97 ∷ []))) ≡ lookup (refuses 20 4) 0 0)
     -- asked of an array
-    × (ask (quickLookup (hex 12 0x010100000000000000000000) 4 (97 ∷ [])) ≡ refuses 21 4)
+    × (lookupOf (ask (quickLookup (hex 12 0x010100000000000000000000) 4 (97 ∷ []))) ≡ lookup (refuses 21 4) 0 0)
     × (ask (plainScan (hex 12 0x010100000000000000000000) 4 (97 ∷ [])) ≡ refuses 21 4)
-unfolding need _>>=_ follow choose number finite byNumbers compareTexts index count slot text content numbers kindOf typeOf header slotNamed numberNamed opening treeWord body bodyBy kindAndSize elementsBy element membersBy object memberAt slotRead textNamed slotText typeBy entryType isContainer isString isNumber containerAt stringAt numberAt turn halveIf halveFrom halve afterKeys afterStrings quickLookup scanFrom plainScan
+unfolding need _>>=_ follow choose number finite byNumbers compareTexts index count slot text content numbers header slotNamed numberNamed opening treeWord body bodyWords kindAndSize element object memberAt slotRead textNamed slotText entryType containerAt stringAt numberAt turn halveIf halveFrom halve afterKeys afterStrings quickLookup lookupOf scanFrom plainScan
 questions-say = (refl, refl, refl, refl, refl, refl, refl, refl, refl, refl, refl, refl, refl, refl, refl, refl, refl, refl, refl, refl, refl, refl, refl, refl, refl, refl, refl, refl, refl, refl, refl, refl, refl, refl, refl, refl, refl, refl, refl, refl, refl, refl, refl, refl, refl, refl, refl, refl, refl, refl, refl, refl, refl, refl, refl, refl, refl, refl, refl, refl, refl, refl, refl, refl, refl, refl, refl, refl, refl, refl, refl, refl, refl, refl, refl, refl, refl, refl, refl, refl, refl)

@@ -55,7 +55,7 @@ pairs-on c w z = let l = z .least in let s = z .step in record { least = omega a
 next-word : (c : ℕ) → Aligned c → Aligned (c + 4)
 next-word c z = let l = z .least in let s = z .step in record { least = omega arith; step = omega arith }
 
--- the containers below the container at c fill the bytes behind its body up to e
+-- the containers below the container at c fill the bytes after its body up to e
 abbrev pub BodyFills : List ℕ → Tree → ℕ → ℕ → Type 0
 BodyFills doc null c e = Unit {0}
 BodyFills doc (bool b) c e = Unit {0}

@@ -28,7 +28,7 @@ count doc = word doc (index doc)
 unfoldable pub slot : List ℕ → ℕ → ℕ
 slot doc k = index doc + 4 + 4 * k
 
--- Text 0 starts behind the slots, text k + 1 where text k ends: at the offset that slot k holds, one past its closing zero.
+-- Text 0 starts after the slots, text k + 1 where text k ends: at the offset that slot k holds, one past its closing zero.
 unfoldable pub text : List ℕ → ℕ → ℕ
 text doc zero = slot doc (count doc)
 text doc (suc k) = high doc (slot doc k)

@@ -4,7 +4,7 @@
 use Prim.Native.Nat.{ℕ, zero, suc, _+_}
 use mathlib.Core.List.{List}
 use Rattle.json.specs.Choose.{choose}
-use Rattle.json.specs.Reading.{halt, done, Reading, Asked, answer, refuse, ask, _>>=_, _>>_}
+use Rattle.json.specs.Reading.{halt, done, Reading, Asked, answers, refuses, answer, refuse, ask, _>>=_, _>>_}
 use Rattle.json.specs.Bytes.{part}
 use Rattle.json.specs.Span.{Span}
 use Rattle.json.specs.Texts.{compareNumbers, compareTexts, isEqual}
@@ -56,6 +56,19 @@ unfoldable pub quickLookup : {S : Type 0} → List ℕ → ℕ → List ℕ → 
 quickLookup doc c x = do
   n ← object doc c
   afterStrings doc c n (strings doc x)
+
+-- "It answers the Entry offset or absent, and both counts; a refusal has 0 and 0."
+pub record Lookup : Type 0 where
+  pub answer : Asked Found
+  pub first : ℕ
+  pub second : ℕ
+
+abbrev pub lookup : Asked Found → ℕ → ℕ → Lookup
+lookup a m n = record { answer = a; first = m; second = n }
+
+unfoldable pub lookupOf : Asked Counted → Lookup
+lookupOf (done a u) = lookup (answers (a .answer)) (a .first) (a .second)
+lookupOf (halt number place u) = lookup (refuses number place) 0 0
 
 -- ---- what both counts are in a document whose slots can all be read
 

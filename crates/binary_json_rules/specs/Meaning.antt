@@ -27,7 +27,7 @@ pub record NumberIs (doc : List ℕ) (v k : ℕ) : Type 0 where
   pub place : v ≡ numbers doc + 8 * k
   pub inside : v + 8 ≤ length doc
 
--- a Meta word at o, of a kind and a size n, with w words behind it that lie in the tree
+-- a Meta word at o, of a kind and a size n, with w words after it that lie in the tree
 pub record Meta (doc : List ℕ) (o : ℕ) (kind : Kind) (n w : ℕ) : Type 0 where
   pub kind-is : kindOf (low doc o) ≡ kind
   pub size-is : high doc o ≡ n

@@ -2,13 +2,15 @@
 -- applies 1 to 4, then 20 unless S+4+4C ≤ N ≤ length; from there on the place is the cursor. The order is: cursor word,
 -- kind, body, index, what is pointed to.
 use Prim.Native.Nat.{ℕ, suc, _+_, _-_, _*_, _%_}
+use mathlib.Core.Bool.{_||_}
 use mathlib.Core.List.{List}
 use lib.Dec.{ltb, leb, eqb}
 use lib.ListN.{length}
-use Rattle.json.specs.Reading.{Reading, answer, refuse, ask, _>>=_, _>>_, need}
+use Rattle.json.specs.Choose.{choose}
+use Rattle.json.specs.Reading.{Reading, answer, ask, _>>=_, _>>_, need}
 use Rattle.json.specs.Bytes.{number}
 use Rattle.json.specs.Span.{Span, spanned}
-use Rattle.binary_json_rules.specs.Areas.{word, low, high, index, count, slot, text, numbers, Kind, kArray, kObject, kScalar, kOther, kindOf, EntryType, tFalse, tTrue, tNull, tString, tNumber, tContainer, tOther, typeOf}
+use Rattle.binary_json_rules.specs.Areas.{word, low, high, index, count, slot, text, numbers}
 use Rattle.binary_json_rules.specs.Verdict.{header, slotNamed, numberNamed}
 use Rattle.binary_json_rules.specs.TreeOf.{slotAt}
 
@@ -27,58 +29,45 @@ treeWord doc a c = do
   need (eqb (a % 4) 0) 20 c
   need (leb (a + 4) (index doc)) 20 c
 
--- ---- at a Meta: kind and size, element i, member j
+-- ---- at a Meta (kind 0 array, 1 object, 2 top-level scalar): kind and size, element i, member j
 
 -- the body of w words lies in the tree
 unfoldable pub body : {S : Type 0} → List ℕ → ℕ → ℕ → Reading S (Unit {0})
 body doc c w = need (leb (c + 4 + 4 * w) (index doc)) 20 c
 
+-- how many words the body of a container of size n has
+unfoldable pub bodyWords : ℕ → ℕ → ℕ
+bodyWords kind n = choose (eqb kind 1) (2 * n) n
+
 pub record Sized : Type 0 where
   pub kind : ℕ
   pub size : ℕ
-
-unfoldable pub bodyBy : {S : Type 0} → List ℕ → ℕ → ℕ → Kind → Reading S (Unit {0})
-bodyBy doc c n kArray = body doc c n
-bodyBy doc c n kObject = body doc c (2 * n)
-bodyBy doc c n kScalar = body doc c n
-bodyBy doc c n kOther = refuse 21 c
 
 unfoldable pub kindAndSize : {S : Type 0} → List ℕ → ℕ → Reading S Sized
 kindAndSize doc c = do
   opening doc c
   treeWord doc c c
-  bodyBy doc c (high doc c) (kindOf (low doc c))
+  need (ltb (low doc c) 3) 21 c
+  body doc c (bodyWords (low doc c) (high doc c))
   answer (record { kind = low doc c; size = high doc c })
 
--- elements are asked of kinds 0 and 2
-unfoldable pub elementsBy : {S : Type 0} → List ℕ → ℕ → ℕ → Kind → Reading S (Unit {0})
-elementsBy doc c n kArray = body doc c n
-elementsBy doc c n kObject = refuse 21 c
-elementsBy doc c n kScalar = body doc c n
-elementsBy doc c n kOther = refuse 21 c
-
--- the offset of the Entry that is element i; nothing is asked about the Entry
+-- the offset of the Entry that is element i, asked of kinds 0 and 2; nothing is asked about the Entry
 unfoldable pub element : {S : Type 0} → List ℕ → ℕ → ℕ → Reading S ℕ
 element doc c i = do
   opening doc c
   treeWord doc c c
-  elementsBy doc c (high doc c) (kindOf (low doc c))
+  need (eqb (low doc c) 0 || eqb (low doc c) 2) 21 c
+  body doc c (high doc c)
   need (ltb i (high doc c)) 22 c
   answer (c + 4 + 4 * i)
 
--- members are asked of kind 1
-unfoldable pub membersBy : {S : Type 0} → List ℕ → ℕ → ℕ → Kind → Reading S (Unit {0})
-membersBy doc c n kArray = refuse 21 c
-membersBy doc c n kObject = body doc c (2 * n)
-membersBy doc c n kScalar = refuse 21 c
-membersBy doc c n kOther = refuse 21 c
-
--- the size of the object at c
+-- the size of the object at c; members are asked of kind 1
 unfoldable pub object : {S : Type 0} → List ℕ → ℕ → Reading S ℕ
 object doc c = do
   opening doc c
   treeWord doc c c
-  membersBy doc c (high doc c) (kindOf (low doc c))
+  need (eqb (low doc c) 1) 21 c
+  body doc c (2 * high doc c)
   answer (high doc c)
 
 pub record MemberAt : Type 0 where
@@ -125,57 +114,21 @@ slotText doc c = do
 abbrev pub slotBytes : List ℕ → ℕ → List ℕ
 slotBytes doc c = spanned doc (ask (slotText doc c))
 
--- ---- at an Entry: type, container, string, number
-
-unfoldable pub typeBy : {S : Type 0} → ℕ → ℕ → EntryType → Reading S ℕ
-typeBy c n tFalse = answer n
-typeBy c n tTrue = answer n
-typeBy c n tNull = answer n
-typeBy c n tString = answer n
-typeBy c n tNumber = answer n
-typeBy c n tContainer = answer n
-typeBy c n tOther = refuse 21 c
+-- ---- at an Entry: type (0 false, 1 true, 2 null, 3 string, 4 number, 5 container), container, string, number
 
 unfoldable pub entryType : {S : Type 0} → List ℕ → ℕ → Reading S ℕ
 entryType doc c = do
   opening doc c
   treeWord doc c c
-  typeBy c (low doc c) (typeOf (low doc c))
-
--- refuse 21 unless the type is the one asked for
-unfoldable pub isContainer : {S : Type 0} → ℕ → EntryType → Reading S (Unit {0})
-isContainer c tFalse = refuse 21 c
-isContainer c tTrue = refuse 21 c
-isContainer c tNull = refuse 21 c
-isContainer c tString = refuse 21 c
-isContainer c tNumber = refuse 21 c
-isContainer c tContainer = answer tt
-isContainer c tOther = refuse 21 c
-
-unfoldable pub isString : {S : Type 0} → ℕ → EntryType → Reading S (Unit {0})
-isString c tFalse = refuse 21 c
-isString c tTrue = refuse 21 c
-isString c tNull = refuse 21 c
-isString c tString = answer tt
-isString c tNumber = refuse 21 c
-isString c tContainer = refuse 21 c
-isString c tOther = refuse 21 c
-
-unfoldable pub isNumber : {S : Type 0} → ℕ → EntryType → Reading S (Unit {0})
-isNumber c tFalse = refuse 21 c
-isNumber c tTrue = refuse 21 c
-isNumber c tNull = refuse 21 c
-isNumber c tString = refuse 21 c
-isNumber c tNumber = answer tt
-isNumber c tContainer = refuse 21 c
-isNumber c tOther = refuse 21 c
+  need (ltb (low doc c) 6) 21 c
+  answer (low doc c)
 
 -- the offset of the container; of it only that its Meta word lies in the tree
 unfoldable pub containerAt : {S : Type 0} → List ℕ → ℕ → Reading S ℕ
 containerAt doc c = do
   opening doc c
   treeWord doc c c
-  isContainer c (typeOf (low doc c))
+  need (eqb (low doc c) 5) 21 c
   treeWord doc (high doc c) c
   answer (high doc c)
 
@@ -183,7 +136,7 @@ unfoldable pub stringAt : {S : Type 0} → List ℕ → ℕ → Reading S Span
 stringAt doc c = do
   opening doc c
   treeWord doc c c
-  isString c (typeOf (low doc c))
+  need (eqb (low doc c) 3) 21 c
   textNamed doc (high doc c) c
 
 abbrev pub stringBytes : List ℕ → ℕ → List ℕ
@@ -194,6 +147,6 @@ unfoldable pub numberAt : {S : Type 0} → List ℕ → ℕ → Reading S ℕ
 numberAt doc c = do
   opening doc c
   treeWord doc c c
-  isNumber c (typeOf (low doc c))
+  need (eqb (low doc c) 4) 21 c
   numberNamed doc (high doc c) 20 c
   answer (number doc (high doc c) 8)

@@ -17,7 +17,8 @@ use Rattle.binary_json_answers.specs.declared.Looked.{Looked}
 use Rattle.binary_json_areas.specs.declared.offsets.TreeOffset.{TreeOffset}
 use Rattle.binary_json_areas.specs.declared.offsets.SlotOffset.{SlotOffset}
 use Rattle.binary_json_answers.specs.Told.{toldSized, toldTree, toldMember, toldType, toldSpan, toldBits, toldScan, toldLookup}
-use Rattle.encoding.specs.Encoding.{hands, given, code, coded, nothing, one, spanned, sized, memberAt, found, counted}
+use Rattle.encoding.proofs.WordLaws.{three-written, second-inside, third-inside}
+use Rattle.encoding.specs.Encoding.{hands, given, code, coded, nothing, one, placeAndLength, sized, memberAt, found, counted}
 
 module _ (words after : List ℕ) (r : ℕ) where
   module _ (a : Verdict) where
@@ -40,7 +41,7 @@ module _ (words after : List ℕ) (r : ℕ) where
   pub type-case : (a b : Typed) → a ≡ b → hands r after ≡ given words (coded one (toldType b)) → hands r after ≡ given words (coded one (toldType a))
   type-case a b e g = rw e g
 
-  pub span-case : (a b : Span) → a ≡ b → hands r after ≡ given words (coded spanned (toldSpan b)) → hands r after ≡ given words (coded spanned (toldSpan a))
+  pub span-case : (a b : Span) → a ≡ b → hands r after ≡ given words (coded placeAndLength (toldSpan b)) → hands r after ≡ given words (coded placeAndLength (toldSpan a))
   span-case a b e g = rw e g
 
   pub bits-case : (a b : Bits) → a ≡ b → hands r after ≡ given words (coded one (toldBits b)) → hands r after ≡ given words (coded one (toldBits a))
@@ -49,7 +50,9 @@ module _ (words after : List ℕ) (r : ℕ) where
   pub scan-case : (a b : Scanned) → a ≡ b → hands r after ≡ given words (coded found (toldScan b)) → hands r after ≡ given words (coded found (toldScan a))
   scan-case a b e g = rw e g
 
-  pub lookup-case : (a b : Looked) → a ≡ b → hands r after ≡ given words (coded counted (toldLookup b)) → hands r after ≡ given words (coded counted (toldLookup a))
+  pub lookup-case : (a b : Looked) → a ≡ b → hands r after ≡ given words (counted (toldLookup b)) → hands r after ≡ given words (counted (toldLookup a))
   lookup-case a b e g = rw e g
 
-pub ruleset binary-cases = (verdict-accepted, verdict-case, sized-case, tree-case, member-case, type-case, span-case, bits-case, scan-case, lookup-case, needs)
+pub ruleset binary-cases = (verdict-accepted, verdict-case, sized-case, tree-case, member-case, type-case, span-case, bits-case, scan-case, needs)
+
+pub ruleset lookup-cases = (lookup-case, three-written, second-inside, third-inside, needs)

@@ -11,7 +11,7 @@ use Rattle.fractured_json_answers.specs.declared.Text.{Text}
 use Rattle.fractured_json_answers.specs.declared.Member.{Member}
 use Rattle.fractured_json_answers.specs.declared.Found.{Found}
 use Rattle.fractured_json_answers.specs.Told.{toldPlace, toldKind, toldNumber, toldText, toldMember, toldFound}
-use Rattle.encoding.specs.Encoding.{hands, given, code, coded, one, spanned, kind, bits, keyAndValue, valueAt}
+use Rattle.encoding.specs.Encoding.{hands, given, code, coded, one, placeAndLength, kind, bits, keyAndValue, valueAt}
 
 module _ (words after : List ℕ) (r : ℕ) where
   pub place-case : (a b : Place) → a ≡ b → hands r after ≡ given words (coded one (toldPlace b)) → hands r after ≡ given words (coded one (toldPlace a))
@@ -23,7 +23,7 @@ module _ (words after : List ℕ) (r : ℕ) where
   pub number-case : (a b : Number) → a ≡ b → hands r after ≡ given words (coded bits (toldNumber b)) → hands r after ≡ given words (coded bits (toldNumber a))
   number-case a b e g = rw e g
 
-  pub text-case : (a b : Text) → a ≡ b → hands r after ≡ given words (coded spanned (toldText b)) → hands r after ≡ given words (coded spanned (toldText a))
+  pub text-case : (a b : Text) → a ≡ b → hands r after ≡ given words (coded placeAndLength (toldText b)) → hands r after ≡ given words (coded placeAndLength (toldText a))
   text-case a b e g = rw e g
 
   pub member-case : (a b : Member) → a ≡ b → hands r after ≡ given words (coded keyAndValue (toldMember b)) → hands r after ≡ given words (coded keyAndValue (toldMember a))

@@ -19,7 +19,7 @@ module _ (o : List ℕ) (r a b c d : ℕ) where
   unfolding given
   two-written = refl
 
-  pub three-written : hands 0 (set (set (set o 0 a) 1 b) 2 c) ≡ given o (code 0 (a ∷ b ∷ c ∷ []))
+  pub three-written : hands r (set (set (set o 0 a) 1 b) 2 c) ≡ given o (code r (a ∷ b ∷ c ∷ []))
   unfolding given
   three-written = refl
 

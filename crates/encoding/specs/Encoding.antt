@@ -9,7 +9,7 @@ use Rattle.json.specs.Choose.{choose}
 use Rattle.json.specs.Reading.{Asked, halt, done}
 use Rattle.json.specs.Span.{Span}
 use Rattle.binary_json_rules.specs.Questions as Binary
-use Rattle.binary_json_rules.specs.Lookup.{Found, entry, absent, Counted}
+use Rattle.binary_json_rules.specs.Lookup.{Found, entry, absent, Lookup}
 use Rattle.fractured_json_rules.specs.Questions as Fractured
 
 pub record Coded : Type 0 where
@@ -47,8 +47,8 @@ nothing u = []
 abbrev pub one : ℕ → List ℕ
 one n = n ∷ []
 
-abbrev pub spanned : Span → List ℕ
-spanned s = s .place ∷ s .len ∷ []
+abbrev pub placeAndLength : Span → List ℕ
+placeAndLength s = s .place ∷ s .len ∷ []
 
 -- kind (0 array, 1 object, 2 top-level scalar) and size
 abbrev pub sized : Binary.Sized → List ℕ
@@ -63,13 +63,14 @@ abbrev pub found : Found → List ℕ
 found (entry o) = 1 ∷ o ∷ []
 found absent = 0 ∷ []
 
--- 1, both counts and the Entry, or 0 and both counts
-abbrev pub countedBy : ℕ → ℕ → Found → List ℕ
-countedBy m n (entry o) = 1 ∷ m ∷ n ∷ o ∷ []
-countedBy m n absent = 0 ∷ m ∷ n ∷ []
+-- 1, both counts and the Entry, or 0 and both counts; of a refusal, the place and both counts
+abbrev pub countedBy : ℕ → ℕ → Asked Found → Coded
+countedBy m n (done (entry o) s) = code 0 (1 ∷ m ∷ n ∷ o ∷ [])
+countedBy m n (done absent s) = code 0 (0 ∷ m ∷ n ∷ [])
+countedBy m n (halt number place s) = code number (place ∷ m ∷ n ∷ [])
 
-abbrev pub counted : Counted → List ℕ
-counted c = countedBy (c .first) (c .second) (c .answer)
+abbrev pub counted : Lookup → Coded
+counted l = countedBy (l .first) (l .second) (l .answer)
 
 -- kind (0 null, 1 false, 2 true, 3 number, 4 string, 5 object, 6 array), and the length of a string or container
 abbrev pub kind : Fractured.Kind → List ℕ
@@ -94,7 +95,7 @@ abbrev pub valueAt : Fractured.Found → List ℕ
 valueAt (Fractured.valueAt o) = 1 ∷ o ∷ []
 valueAt Fractured.absent = 0 ∷ []
 
--- the number of pairs, behind the place of a refusal
+-- the number of pairs, after the place of a refusal
 abbrev pub checkedBy : ℕ → Asked (Unit {0}) → Coded
 checkedBy count (done u s) = code 0 (count ∷ [])
 checkedBy count (halt number place s) = code number (place ∷ count ∷ [])

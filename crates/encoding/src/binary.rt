@@ -18,7 +18,7 @@ ghost use Prim.Native.Nat.{_≤_};
 ghost use lib.ListN.{length};
 ghost use Rattle.json.specs.Reading.{told};
 ghost use Rattle.binary_json_answers.specs.Told.{toldSized, toldTree, toldMember, toldType, toldSpan, toldBits, toldScan, toldLookup};
-ghost use Rattle.encoding.specs.Encoding.{hands, given, coded, nothing, one, spanned, sized, memberAt, found, counted};
+ghost use Rattle.encoding.specs.Encoding.{hands, given, coded, nothing, one, placeAndLength, sized, memberAt, found, counted};
 
 // A verdict has no values.
 pub fn give_verdict(out: &mut [u64], answer: Verdict) -> u32
@@ -85,7 +85,7 @@ pub fn give_type(out: &mut [u64], answer: Typed) -> u32
 // Place and length of a text.
 pub fn give_span(out: &mut [u64], answer: Span) -> u32
     requires { ⌜ 2 ≤ length (now out) ⌝ }
-    ensures { λ r. ⌜ hands r (now (out .exit)) ≡ given (now (out .entry)) (coded spanned (toldSpan answer)) ⌝ }
+    ensures { λ r. ⌜ hands r (now (out .exit)) ≡ given (now (out .entry)) (coded placeAndLength (toldSpan answer)) ⌝ }
 {
     match answer {
         Span::At { place, len } => two(out, place as u64, len as u64),
@@ -116,10 +116,10 @@ pub fn give_scan(out: &mut [u64], answer: Scanned) -> u32
     }
 }
 
-// 1, both counts and the Entry, or 0 and both counts.
+// 1, both counts and the Entry, or 0 and both counts; of a refusal, the place and the counts 0 and 0.
 pub fn give_lookup(out: &mut [u64], answer: Looked) -> u32
     requires { ⌜ 4 ≤ length (now out) ⌝ }
-    ensures { λ r. ⌜ hands r (now (out .exit)) ≡ given (now (out .entry)) (coded counted (toldLookup answer)) ⌝ }
+    ensures { λ r. ⌜ hands r (now (out .exit)) ≡ given (now (out .entry)) (counted (toldLookup answer)) ⌝ }
 {
     match answer {
         Looked::Entry { at, first, second } => four(
@@ -130,6 +130,11 @@ pub fn give_lookup(out: &mut [u64], answer: Looked) -> u32
             at.0 as u64,
         ),
         Looked::Absent { first, second } => three(out, 0, first as u64, second as u64),
-        Looked::Refused(r) => refuse(out, r),
+        Looked::Refused(r) => {
+            out[0] = r.place as u64;
+            out[1] = 0;
+            out[2] = 0;
+            r.number
+        }
     }
 }

@@ -14,9 +14,9 @@ ghost use Prim.Native.Nat.{_≤_};
 ghost use lib.ListN.{length};
 ghost use Rattle.json.specs.Reading.{told};
 ghost use Rattle.fractured_json_answers.specs.Told.{toldPlace, toldKind, toldNumber, toldText, toldMember, toldFound};
-ghost use Rattle.encoding.specs.Encoding.{hands, given, coded, one, spanned, kind, bits, keyAndValue, valueAt, checkedBy};
+ghost use Rattle.encoding.specs.Encoding.{hands, given, coded, one, placeAndLength, kind, bits, keyAndValue, valueAt, checkedBy};
 
-// The number of pairs, behind the place of a refusal.
+// The number of pairs, after the place of a refusal.
 pub fn give_checked(out: &mut [u64], verdict: Verdict, count: usize) -> u32
     requires { ⌜ 2 ≤ length (now out) ⌝ }
     ensures { λ r. ⌜ hands r (now (out .exit)) ≡ given (now (out .entry)) (checkedBy count (told verdict)) ⌝ }
@@ -73,7 +73,7 @@ pub fn give_number(out: &mut [u64], answer: Number) -> u32
 // Place and length of a text.
 pub fn give_text(out: &mut [u64], answer: Text) -> u32
     requires { ⌜ 2 ≤ length (now out) ⌝ }
-    ensures { λ r. ⌜ hands r (now (out .exit)) ≡ given (now (out .entry)) (coded spanned (toldText answer)) ⌝ }
+    ensures { λ r. ⌜ hands r (now (out .exit)) ≡ given (now (out .entry)) (coded placeAndLength (toldText answer)) ⌝ }
 {
     match answer {
         Text::At { place, len } => two(out, place as u64, len as u64),

@@ -11,7 +11,8 @@ use Rattle.json.specs.Reading.{Asked, told}
 use Rattle.fractured_json_rules.specs.KeyTable.{checked}
 use Rattle.fractured_json_check.specs.Told.{toldChecked}
 use Rattle.fractured_json_check.specs.declared.answers.Checked.{Checked}
-use Rattle.encoding.specs.Encoding.{Coded, coded, hands, given, handed, checkedBy}
+use Rattle.binary_json_rules.specs.Lookup.{Lookup}
+use Rattle.encoding.specs.Encoding.{Coded, coded, hands, given, handed, counted, checkedBy}
 
 pub too-few : (need : ℕ) (words : List ℕ) (c : Coded) → length words < need → hands 255 words ≡ handed need words c
 unfolding handed choose
@@ -22,7 +23,12 @@ pub handed-over : {A : Type 0} (values : A → List ℕ) (need r : ℕ) (words a
 unfolding handed choose
 handed-over values need r words after q p h e g = rw (le-ltb (length words) need h) (g ∙ ap (λ x. given words (coded values x)) e)
 
-pub ruleset handing-laws = (too-few, handed-over, needs)
+pub lookup-handed : (need r : ℕ) (words after : List ℕ) (q p : Lookup) → need ≤ length words → q ≡ p
+    → hands r after ≡ given words (counted q) → hands r after ≡ handed need words (counted p)
+unfolding handed choose
+lookup-handed need r words after q p h e g = rw (le-ltb (length words) need h) (g ∙ ap (λ x. given words (counted x)) e)
+
+pub ruleset handing-laws = (too-few, handed-over, lookup-handed, needs)
 
 -- ---- the check with a key table
 

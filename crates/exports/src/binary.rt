@@ -6,8 +6,8 @@ ghost use mathlib.Core.Path.{_≡_};
 ghost use Rattle.json.specs.Reading.{ask};
 ghost use Rattle.binary_json_rules.specs.Verdict.{verdict};
 ghost use Rattle.binary_json_rules.specs.Questions.{kindAndSize, element, memberAt as member, entryType, containerAt, stringAt, numberAt, slotText};
-ghost use Rattle.binary_json_rules.specs.Lookup.{quickLookup, plainScan};
-ghost use Rattle.encoding.specs.Encoding.{hands, handed, coded, nothing, one, spanned, sized, memberAt, found, counted};
+ghost use Rattle.binary_json_rules.specs.Lookup.{quickLookup, lookupOf, plainScan};
+ghost use Rattle.encoding.specs.Encoding.{hands, handed, coded, nothing, one, placeAndLength, sized, memberAt, found, counted};
 
 // The check.
 #[no_mangle]
@@ -78,7 +78,7 @@ pub extern "C" fn bj_container(doc: &[u8], tree: usize, out: &mut [u64]) -> u32
 // The text of the string that an Entry names.
 #[no_mangle]
 pub extern "C" fn bj_string(doc: &[u8], tree: usize, out: &mut [u64]) -> u32
-    ensures { λ r. ⌜ hands r (now (out .exit)) ≡ handed 2 (now (out .entry)) (coded spanned (ask (stringAt (now (doc .entry)) tree))) ⌝ }
+    ensures { λ r. ⌜ hands r (now (out .exit)) ≡ handed 2 (now (out .entry)) (coded placeAndLength (ask (stringAt (now (doc .entry)) tree))) ⌝ }
 {
     if out.len() < 2 {
         return TOO_FEW;
@@ -100,7 +100,7 @@ pub extern "C" fn bj_number(doc: &[u8], tree: usize, out: &mut [u64]) -> u32
 // The text that a slot names.
 #[no_mangle]
 pub extern "C" fn bj_slot(doc: &[u8], slot: usize, out: &mut [u64]) -> u32
-    ensures { λ r. ⌜ hands r (now (out .exit)) ≡ handed 2 (now (out .entry)) (coded spanned (ask (slotText (now (doc .entry)) slot))) ⌝ }
+    ensures { λ r. ⌜ hands r (now (out .exit)) ≡ handed 2 (now (out .entry)) (coded placeAndLength (ask (slotText (now (doc .entry)) slot))) ⌝ }
 {
     if out.len() < 2 {
         return TOO_FEW;
@@ -111,7 +111,7 @@ pub extern "C" fn bj_slot(doc: &[u8], slot: usize, out: &mut [u64]) -> u32
 // The quick lookup of a key in the object at a Meta.
 #[no_mangle]
 pub extern "C" fn bj_quick_lookup(doc: &[u8], tree: usize, key: &[u8], out: &mut [u64]) -> u32
-    ensures { λ r. ⌜ hands r (now (out .exit)) ≡ handed 4 (now (out .entry)) (coded counted (ask (quickLookup (now (doc .entry)) tree (now (key .entry))))) ⌝ }
+    ensures { λ r. ⌜ hands r (now (out .exit)) ≡ handed 4 (now (out .entry)) (counted (lookupOf (ask (quickLookup (now (doc .entry)) tree (now (key .entry)))))) ⌝ }
 {
     if out.len() < 4 {
         return TOO_FEW;

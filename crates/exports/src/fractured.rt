@@ -7,7 +7,7 @@ ghost use Rattle.json.specs.Choose.{choose};
 ghost use Rattle.json.specs.Reading.{ask};
 ghost use Rattle.fractured_json_rules.specs.KeyTable.{checked};
 ghost use Rattle.fractured_json_rules.specs.Questions.{endOf, kind as kindAt, numberAt, stringAt, elementAt, memberAt, firstMember};
-ghost use Rattle.encoding.specs.Encoding.{hands, handed, coded, one, spanned, kind, bits, keyAndValue, valueAt, checkedBy};
+ghost use Rattle.encoding.specs.Encoding.{hands, handed, coded, one, placeAndLength, kind, bits, keyAndValue, valueAt, checkedBy};
 
 // The check with a lent key table. Where too few words are lent for the answer, the key table too stays as it was.
 #[no_mangle]
@@ -59,7 +59,7 @@ pub extern "C" fn fj_number(doc: &[u8], at: usize, out: &mut [u64]) -> u32
 // The text of a string.
 #[no_mangle]
 pub extern "C" fn fj_string(doc: &[u8], at: usize, out: &mut [u64]) -> u32
-    ensures { λ r. ⌜ hands r (now (out .exit)) ≡ handed 2 (now (out .entry)) (coded spanned (ask (stringAt (now (doc .entry)) at))) ⌝ }
+    ensures { λ r. ⌜ hands r (now (out .exit)) ≡ handed 2 (now (out .entry)) (coded placeAndLength (ask (stringAt (now (doc .entry)) at))) ⌝ }
 {
     if out.len() < 2 {
         return TOO_FEW;

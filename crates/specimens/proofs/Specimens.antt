@@ -23,5 +23,5 @@ unfolding follow _>>=_ need choose number finite magnitude floatTree wholeTree s
 specimens-hold = refl
 
 pub lookups-hold : (ask (BL.quickLookup aTrue 4 keyA) ≡ answers lookupA) × (ask (BL.quickLookup aTrue 4 keyB) ≡ answers lookupB)
-unfolding follow _>>=_ need choose number byNumbers compareTexts B.index B.count B.slot B.text B.numbers B.kindOf BV.header BQ.opening BQ.treeWord BQ.body BQ.membersBy BQ.object BQ.slotRead BH.turn BH.halveIf BH.halveFrom BH.halve BL.afterKeys BL.afterStrings BL.quickLookup
+unfolding follow _>>=_ need choose number byNumbers compareTexts B.index B.count B.slot B.text B.numbers BV.header BQ.opening BQ.treeWord BQ.body BQ.object BQ.slotRead BH.turn BH.halveIf BH.halveFrom BH.halve BL.afterKeys BL.afterStrings BL.quickLookup
 lookups-hold = (refl, refl)

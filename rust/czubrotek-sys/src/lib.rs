@@ -1,6 +1,6 @@
 //! The functions of `include/czubrotek.h`, which says what each returns and what it writes over the words lent as `out`.
 //!
-//! A slice stands for a pointer and the length behind it, a `u64` for a `size_t`.
+//! A slice stands for a pointer and the length after it, a `u64` for a `size_t`.
 
 #[cfg(not(target_arch = "x86_64"))]
 compile_error!("the proved library is compiled for x86-64 alone");

@@ -11,6 +11,15 @@ fn ask<const W: usize, T>(
     call: impl Fn(&mut [u64]) -> u32,
     answered: impl Fn(&[u64; W]) -> (T, usize),
 ) -> Answer<T> {
+    ask_counting(call, answered, &[])
+}
+
+/// The same, where a refusal must write these counts after its place.
+fn ask_counting<const W: usize, T>(
+    call: impl Fn(&mut [u64]) -> u32,
+    answered: impl Fn(&[u64; W]) -> (T, usize),
+    counts: &[u64],
+) -> Answer<T> {
     let mut words = [BEFORE; W];
     let number = call(&mut words);
     assert_ne!(number, sys::TOO_FEW, "{W} words were too few");
@@ -19,13 +28,12 @@ fn ask<const W: usize, T>(
             let (value, used) = answered(&words);
             (Ok(value), used)
         }
-        _ => (
-            Err(Refusal {
-                number,
-                place: words[0],
-            }),
-            1,
-        ),
+        _ => {
+            let used = 1 + counts.len();
+            assert_eq!(&words[1..used], counts, "the counts of a refusal");
+            let place = words[0];
+            (Err(Refusal { number, place }), used)
+        }
     };
     assert!(
         words[used..].iter().all(|&w| w == BEFORE),
@@ -96,12 +104,13 @@ pub mod binary_json {
     }
 
     pub fn quick_lookup(doc: &[u8], tree: u64, key: &[u8]) -> Answer<(Option<u64>, u64, u64)> {
-        ask(
+        ask_counting(
             |out| sys::bj_quick_lookup(doc, tree, key, out),
             |&[found, strings, keys, entry]| match found {
                 1 => ((Some(entry), strings, keys), 4),
                 _ => ((None, strings, keys), 3),
             },
+            &[0, 0],
         )
     }
 

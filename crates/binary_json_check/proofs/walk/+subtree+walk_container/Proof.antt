@@ -9,7 +9,7 @@ use Rattle.binary_json_check.proofs.walk.+subtree+walk_container.Lts-su
 use Rattle.binary_json_check.proofs.walk.walk_container.Reads as walk-container
 use Rattle.binary_json_check.proofs.walk.walk_container.Kinds as walk-container-kinds
 use Rattle.binary_json_check.proofs.walk.+subtree+walk_container.Lts-walk_container as walk-container-lts
-use Rattle.binary_json_check.proofs.walk.open_container.Reads as open-container-reads
+use Rattle.binary_json_check.proofs.walk.read_body.Reads as read-body-reads
 use Rattle.binary_json_check.proofs.walk.read_entry.Reads as read-entry-reads
 use Rattle.binary_json_check.proofs.walk.+subtree+walk_container.{statement}
 use Rattle.binary_json_check.proofs.walk.+subtree+walk_container.Tie.{close}
@@ -66,13 +66,13 @@ abbrev walk-container-μ-loop : walk-container-lts.MeasureT-loop
 walk-container-μ-loop doc a levels o first count left₀ at₀ due₀ left at due = left
 
 abbrev walk-container-calls : ℕ → walk-container-lts.Claims
-walk-container-calls t = (open-container-reads.Asked, open-container-reads.Learnt, subtree-below t, subtree.Post)
+walk-container-calls t = (read-body-reads.Asked, read-body-reads.Learnt, subtree-below t, subtree.Post)
 
 walk-container-returns : (t : ℕ) → walk-container-lts.Need-returns (walk-container-calls t) (walk-container-at t) walk-container.Post walk-container-Inv-loop walk-container-μ-loop
 walk-container-returns t c = search walk-laws
 
-walk-container-open-container-requires : (t : ℕ) → walk-container-lts.Need-open-container-requires (walk-container-calls t) (walk-container-at t) walk-container.Post walk-container-Inv-loop walk-container-μ-loop
-walk-container-open-container-requires t c κs = search walk-laws
+walk-container-read-body-requires : (t : ℕ) → walk-container-lts.Need-read-body-requires (walk-container-calls t) (walk-container-at t) walk-container.Post walk-container-Inv-loop walk-container-μ-loop
+walk-container-read-body-requires t c κs = search walk-laws
 
 walk-container-enum-known-h : (t : ℕ) → walk-container-lts.Need-enum-known-h (walk-container-calls t) (walk-container-at t) walk-container.Post walk-container-Inv-loop walk-container-μ-loop
 walk-container-enum-known-h t c = search walk-laws
@@ -141,7 +141,7 @@ pub +subtree+walk-container-spec : {M : Type 1} → statement M
     walk-container-Inv-loop
     walk-container-μ-loop
     (walk-container-returns t)
-    (walk-container-open-container-requires t)
+    (walk-container-read-body-requires t)
     (walk-container-enum-known-h t)
     (walk-container-enum-known-h-2 t)
     (walk-container-mul-due t)

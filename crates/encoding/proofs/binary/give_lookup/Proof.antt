@@ -1,42 +1,48 @@
-use Rattle.encoding.proofs.BinaryCases.{binary-cases}
+use Rattle.encoding.proofs.BinaryCases.{lookup-cases}
 use Rattle.encoding.proofs.binary.give_lookup.Statement.{statement}
 use Rattle.encoding.proofs.binary.give_lookup.Tie as tie
 
 enum-known-answer : tie.Need-enum-known-answer
-enum-known-answer c = search binary-cases
+enum-known-answer c = search lookup-cases
 
 four-requires : tie.Need-four-requires
-four-requires c κs = search binary-cases
+four-requires c κs = search lookup-cases
 
 enum-known-answer-2 : tie.Need-enum-known-answer-2
-enum-known-answer-2 c = search binary-cases
+enum-known-answer-2 c = search lookup-cases
 
 three-requires : tie.Need-three-requires
-three-requires c κs = search binary-cases
+three-requires c κs = search lookup-cases
 
 enum-known-answer-3 : tie.Need-enum-known-answer-3
-enum-known-answer-3 c = search binary-cases
+enum-known-answer-3 c = search lookup-cases
 
-refuse-requires : tie.Need-refuse-requires
-refuse-requires c κs = search binary-cases
+slice-write-out : tie.Need-slice-write-out
+slice-write-out c = search lookup-cases
+
+slice-write-out-2 : tie.Need-slice-write-out-2
+slice-write-out-2 c = search lookup-cases
+
+slice-write-out-3 : tie.Need-slice-write-out-3
+slice-write-out-3 c = search lookup-cases
 
 same-length : tie.Need-same-length
-same-length c = search binary-cases
+same-length c = search lookup-cases
 
 returns : tie.Need-returns
-returns c = search binary-cases
+returns c = search lookup-cases
 
 same-length-2 : tie.Need-same-length-2
-same-length-2 c = search binary-cases
+same-length-2 c = search lookup-cases
 
 returns-2 : tie.Need-returns-2
-returns-2 c = search binary-cases
+returns-2 c = search lookup-cases
 
 same-length-3 : tie.Need-same-length-3
-same-length-3 c = search binary-cases
+same-length-3 c = search lookup-cases
 
 returns-3 : tie.Need-returns-3
-returns-3 c = search binary-cases
+returns-3 c = search lookup-cases
 
 pub give-lookup-spec : {M : Type 1} → statement M
 give-lookup-spec =
@@ -47,7 +53,9 @@ give-lookup-spec =
     enum-known-answer-2
     three-requires
     enum-known-answer-3
-    refuse-requires
+    slice-write-out
+    slice-write-out-2
+    slice-write-out-3
     same-length
     returns
     same-length-2

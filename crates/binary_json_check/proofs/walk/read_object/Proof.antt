@@ -1,7 +1,7 @@
 use Rattle.binary_json_check.proofs.Walks.{object-laws}
 use borrow.Author.Needs.{needs}
-use Rattle.binary_json_check.proofs.walk.open_object.Statement.{statement}
-use Rattle.binary_json_check.proofs.walk.open_object.Tie as tie
+use Rattle.binary_json_check.proofs.walk.read_object.Statement.{statement}
+use Rattle.binary_json_check.proofs.walk.read_object.Tie as tie
 
 add-if1 : tie.Need-add-if1
 add-if1 c = search needs
@@ -45,8 +45,8 @@ returns-2 c = search object-laws
 returns-3 : tie.Need-returns-3
 returns-3 c = search object-laws
 
-pub open-object-spec : {M : Type 1} → statement M
-open-object-spec =
+pub read-object-spec : {M : Type 1} → statement M
+read-object-spec =
     tie.close
     (tie.spec
     add-if1

@@ -1,13 +1,13 @@
-use Rattle.binary_json_check.proofs.Walks.{open-laws}
+use Rattle.binary_json_check.proofs.Walks.{body-laws}
 use borrow.Author.Needs.{needs}
-use Rattle.binary_json_check.proofs.walk.open_container.Statement.{statement}
-use Rattle.binary_json_check.proofs.walk.open_container.Tie as tie
+use Rattle.binary_json_check.proofs.walk.read_body.Statement.{statement}
+use Rattle.binary_json_check.proofs.walk.read_body.Tie as tie
 
 returns : tie.Need-returns
-returns c = search open-laws
+returns c = search body-laws
 
 returns-2 : tie.Need-returns-2
-returns-2 c = search open-laws
+returns-2 c = search body-laws
 
 fields-at-requires : tie.Need-fields-at-requires
 fields-at-requires c κs = search needs
@@ -22,25 +22,25 @@ add-if4-2 : tie.Need-add-if4-2
 add-if4-2 c = search needs
 
 returns-3 : tie.Need-returns-3
-returns-3 c = search open-laws
+returns-3 c = search body-laws
 
 add-t11 : tie.Need-add-t11
 add-t11 c = search needs
 
 returns-4 : tie.Need-returns-4
-returns-4 c = search open-laws
+returns-4 c = search body-laws
 
-open-object-requires : tie.Need-open-object-requires
-open-object-requires c κs = search needs
+read-object-requires : tie.Need-read-object-requires
+read-object-requires c κs = search needs
 
 returns-5 : tie.Need-returns-5
 returns-5 c = search needs
 
 returns-6 : tie.Need-returns-6
-returns-6 c = search open-laws
+returns-6 c = search body-laws
 
-pub open-container-spec : {M : Type 1} → statement M
-open-container-spec =
+pub read-body-spec : {M : Type 1} → statement M
+read-body-spec =
     tie.close
     (tie.spec
     returns
@@ -52,6 +52,6 @@ open-container-spec =
     returns-3
     add-t11
     returns-4
-    open-object-requires
+    read-object-requires
     returns-5
     returns-6)
