@@ -13,7 +13,7 @@ use Rattle.json.specs.Limits.{mostKeys, deepest}
 use Rattle.json.specs.Reading.{Outcome, halt, done, Reading, Asked, ask, answer, keep, follow, _>>=_, need}
 use Rattle.fractured_json_rules.specs.ByteTables.{Index, inByte, spelled, KeyForm, immediate, backReference, globalIndex, kReserved, keyFormOf}
 use Rattle.fractured_json_rules.specs.Meaning.{Key, Keys}
-use Rattle.fractured_json_rules.specs.Verdict.{byteAt, Counted, indexAt, inTurn, member, value, met, newKey, oldKey, checkKeyBy, checkKey}
+use Rattle.fractured_json_rules.specs.Verdict.{byteAt, Numeral, indexAt, inTurn, member, value, met, newKey, oldKey, checkKeyBy, checkKey}
 use Rattle.fractured_json_rules.specs.KeyTable.{roomOf, pairs, stored, keyOf}
 use Rattle.fractured_json_rules.proofs.KeyTable.{room-words, stored-length}
 use Rattle.fractured_json_rules.proofs.Readers.{kept-is, keep-is}
@@ -149,7 +149,7 @@ module _ (words doc : List ℕ) where
       let y = r .roomy in
       omega arith
 
-  one-key-more : (ks : Keys) (t : Table) (n : Counted) → Tied ks t → length ks < roomOf words
+  one-key-more : (ks : Keys) (t : Table) (n : Numeral) → Tied ks t → length ks < roomOf words
       → Tied (ks ++ (record { start = n .past; len = n .is } ∷ []))
       (table (t .count + 1) (withPair (t .words) (t .count) (n .past) (n .is)) (linkedIn (t .links) (t .count) (bucketOf (part doc (n .past) (n .is)) (bucketsIn (t .links)))))
   one-key-more ks t n r h =
@@ -163,7 +163,7 @@ module _ (words doc : List ℕ) where
         linked = linked-more doc (t .words) (t .links) (t .count) (n .past) (n .is) (r .linked) (omega arith);
       }
 
-  sim-fresh : (o : ℕ) (n : Counted) (ks : Keys) (t : Table) → Tied ks t
+  sim-fresh : (o : ℕ) (n : Numeral) (ks : Keys) (t : Table) → Tied ks t
       → Alike ((need (ltb (length ks) (roomOf words)) 40 o >>= λ _. keep (ks ++ (record { start = n .past; len = n .is } ∷ [])) >>= λ _. answer (n .past + n .is)) ks)
       (freshKeyIn (bucketOf (part doc (n .past) (n .is)) (bucketsIn (t .links))) o n t)
   unfolding freshKeyIn
@@ -174,13 +174,13 @@ module _ (words doc : List ℕ) where
   same-test : (x : List ℕ) (ks : Keys) (t : Table) → Tied ks t → met doc x ks ≡ seenIn doc x (t .words) (t .links) (t .count)
   same-test x ks t r = sym (seen-met doc x (t .words) (t .links) (t .count) (r .linked) (half ks t r) ∙ ap (met doc x) (same-keys ks t r))
 
-  sim-new : (o : ℕ) (n : Counted) → Sim (newKey (roomOf words) doc o n) (newKeyIn doc o n)
+  sim-new : (o : ℕ) (n : Numeral) → Sim (newKey (roomOf words) doc o n) (newKeyIn doc o n)
   unfolding newKey newKeyIn
   sim-new o n ks t r =
       let e : not (met doc (part doc (n .past) (n .is)) ks) ≡ not (seenIn doc (part doc (n .past) (n .is)) (t .words) (t .links) (t .count)) = ap not (same-test (part doc (n .past) (n .is)) ks t r) in
       sim-test _ _ _ _ _ _ ks t refl r (λ y. rw (kept-is _ ks, kept-is _ t) (sim-test _ _ _ _ _ _ ks t e r (λ z. sim-fresh o n ks t r)))
 
-  sim-old : (o : ℕ) (n : Counted) → Sim (oldKey o n) (oldKeyIn o n)
+  sim-old : (o : ℕ) (n : Numeral) → Sim (oldKey o n) (oldKeyIn o n)
   unfolding oldKey oldKeyIn
   sim-old o n ks t r =
       let e : ltb (n .is) (length ks) ≡ ltb (n .is) (t .count) = rw (r .counts) in

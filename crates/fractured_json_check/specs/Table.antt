@@ -11,7 +11,7 @@ use Rattle.json.specs.Limits.{deepest}
 use Rattle.json.specs.Reading.{Outcome, halt, done, Reading, Asked, answers, refuses, answer, refuse, kept, keep, _>>=_, _>>_, need}
 use Rattle.fractured_json_rules.specs.ByteTables.{keyFormOf}
 use Rattle.fractured_json_rules.specs.Meaning.{Keys}
-use Rattle.fractured_json_rules.specs.Verdict.{byteAt, Counted, indexAt, value, checkKey}
+use Rattle.fractured_json_rules.specs.Verdict.{byteAt, Numeral, indexAt, value, checkKey}
 use Rattle.fractured_json_rules.specs.KeyTable.{roomOf, stored}
 use Rattle.fractured_json_values.specs.Heads.{keyHeadOf, indexBy}
 use Rattle.fractured_json_values.specs.declared.types.KeyHead.{KeyHead}
@@ -32,28 +32,28 @@ table c ws ls = record { count = c; words = ws; links = ls }
 
 -- a key whose text is fresh and falls into the bucket b, if there is room for it: once passed, it has its pair, its link and its
 -- number
-unfoldable pub freshKeyIn : ℕ → ℕ → Counted → Reading Table ℕ
+unfoldable pub freshKeyIn : ℕ → ℕ → Numeral → Reading Table ℕ
 freshKeyIn b o n = do
   t ← kept
   need (ltb (t .count) (roomOf (t .words))) 40 o
   keep (table (t .count + 1) (withPair (t .words) (t .count) (n .past) (n .is)) (linkedIn (t .links) (t .count) b))
   answer (n .past + n .is)
 
-unfoldable pub newKeyIn : List ℕ → ℕ → Counted → Reading Table ℕ
+unfoldable pub newKeyIn : List ℕ → ℕ → Numeral → Reading Table ℕ
 newKeyIn doc o n = do
   need (leb (n .past + n .is) (length doc)) 35 o
   t ← kept
   need (not (seenIn doc (part doc (n .past) (n .is)) (t .words) (t .links) (t .count))) 39 o
   freshKeyIn (bucketOf (part doc (n .past) (n .is)) (bucketsIn (t .links))) o n
 
-unfoldable pub oldKeyIn : ℕ → Counted → Reading Table ℕ
+unfoldable pub oldKeyIn : ℕ → Numeral → Reading Table ℕ
 oldKeyIn o n = do
   t ← kept
   need (ltb (n .is) (t .count)) 38 o
   answer (n .past)
 
 -- a key by its kind, once its number has been read
-unfoldable pub numberedIn : List ℕ → ℕ → ℕ → Counted → Reading Table ℕ
+unfoldable pub numberedIn : List ℕ → ℕ → ℕ → Numeral → Reading Table ℕ
 numberedIn doc o kind n = choose (eqb kind 0) (newKeyIn doc o n) (choose (eqb kind 1) (oldKeyIn o n) (refuse 38 o))
 
 unfoldable pub keyHeadIn : List ℕ → ℕ → KeyHead → Reading Table ℕ

@@ -7,12 +7,12 @@ use fractured_json_keys::pairs::store;
 use fractured_json_values::index::index_at;
 use fractured_json_values::texts::room_of;
 use fractured_json_values::types::key_head;
-use fractured_json_values::values::Counted;
+use fractured_json_values::values::Numeral;
 use json::Refusal;
 ghost use mathlib.Core.Path.{_≡_};
 ghost use Prim.Native.Nat.{_+_, _^_, _≤_, _<_};
 ghost use lib.ListN.{length};
-ghost use Rattle.fractured_json_rules.specs.Verdict.{counted};
+ghost use Rattle.fractured_json_rules.specs.Verdict.{numeral};
 ghost use Rattle.fractured_json_check.specs.Known.{Known};
 ghost use Rattle.fractured_json_check.specs.Table.{table, freshKeyIn, newKeyIn, numberedIn, keyIn, out};
 
@@ -28,7 +28,7 @@ fn fresh_key(
     past: usize,
 ) -> Walk
     requires { ⌜ past + number < 2 ^ 32 ⌝ }
-    ensures { λ r. ⌜ out r (now (keys .exit)) (now (links .exit)) ≡ freshKeyIn b at (counted number past) (table count (now (keys .entry)) (now (links .entry))) ⌝ }
+    ensures { λ r. ⌜ out r (now (keys .exit)) (now (links .exit)) ≡ freshKeyIn b at (numeral number past) (table count (now (keys .entry)) (now (links .entry))) ⌝ }
 {
     if room_of(keys) <= count {
         return Walk::Refused {
@@ -58,7 +58,7 @@ fn new_key(
     past: usize,
 ) -> Walk
     requires { ⌜ (length (now doc) < 2 ^ 32) × (past ≤ length (now doc)) ⌝ }
-    ensures { λ r. ⌜ out r (now (keys .exit)) (now (links .exit)) ≡ newKeyIn (now (doc .entry)) at (counted number past) (table count (now (keys .entry)) (now (links .entry))) ⌝ }
+    ensures { λ r. ⌜ out r (now (keys .exit)) (now (links .exit)) ≡ newKeyIn (now (doc .entry)) at (numeral number past) (table count (now (keys .entry)) (now (links .entry))) ⌝ }
 {
     if doc.len() - past < number {
         return Walk::Refused {
@@ -94,7 +94,7 @@ fn numbered(
     past: usize,
 ) -> Walk
     requires { ⌜ (length (now doc) < 2 ^ 32) × (past ≤ length (now doc)) ⌝ }
-    ensures { λ r. ⌜ out r (now (keys .exit)) (now (links .exit)) ≡ numberedIn (now (doc .entry)) at kind (counted number past) (table count (now (keys .entry)) (now (links .entry))) ⌝ }
+    ensures { λ r. ⌜ out r (now (keys .exit)) (now (links .exit)) ≡ numberedIn (now (doc .entry)) at kind (numeral number past) (table count (now (keys .entry)) (now (links .entry))) ⌝ }
 {
     if kind == 0 {
         return new_key(doc, keys, links, count, at, number, past);
@@ -153,8 +153,8 @@ pub(crate) fn check_key(
     }
     let n = index_at(doc, at, h.spelled, h.number);
     match n {
-        Counted::Refused(refusal) => Walk::Refused { count, refusal },
-        Counted::Is { number, past } => numbered(doc, keys, links, count, at, kind, number, past),
+        Numeral::Refused(refusal) => Walk::Refused { count, refusal },
+        Numeral::Is { number, past } => numbered(doc, keys, links, count, at, kind, number, past),
     }
 }
 

@@ -7,7 +7,7 @@ use lib.Dec.{eqb}
 use Rattle.json.specs.Bytes.{part}
 use Rattle.json.specs.Choose.{choose}
 use Rattle.json.specs.Reading.{Reading, Asked, ask, answers, refuses, refuse, _>>=_}
-use Rattle.fractured_json_rules.specs.Verdict.{Counted, indexAt}
+use Rattle.fractured_json_rules.specs.Verdict.{Numeral, indexAt}
 use Rattle.fractured_json_rules.specs.Questions.{KeyRead, textKey, backKey, valueAt, absent, findFrom}
 use Rattle.fractured_json_values.specs.Heads.{indexBy}
 use Rattle.fractured_json_values.specs.declared.types.KeyHead.{KeyHead}
@@ -17,7 +17,7 @@ use Rattle.fractured_json_containers.specs.declared.lookup.Look.{Look}
 -- ---- keys
 
 -- a key by its kind, once the number that it carries has been read
-unfoldable pub numberedKey : {S : Type 0} → List ℕ → List ℕ → ℕ → ℕ → ℕ → Counted → Reading S KeyRead
+unfoldable pub numberedKey : {S : Type 0} → List ℕ → List ℕ → ℕ → ℕ → ℕ → Numeral → Reading S KeyRead
 numberedKey doc words count o kind n = choose (eqb kind 0) (textKey doc o n) (choose (eqb kind 1) (backKey doc words count o n) (refuse 38 o))
 
 unfoldable pub headKey : {S : Type 0} → List ℕ → List ℕ → ℕ → ℕ → KeyHead → Reading S KeyRead

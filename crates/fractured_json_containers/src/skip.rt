@@ -4,7 +4,7 @@ use fractured_json_values::index::index_at;
 use fractured_json_values::texts::room_of;
 use fractured_json_values::texts::word_of;
 use fractured_json_values::types::key_head;
-use fractured_json_values::values::Counted;
+use fractured_json_values::values::Numeral;
 use fractured_json_values::values::Open;
 use fractured_json_values::values::open_at;
 use json::Refusal;
@@ -12,7 +12,7 @@ ghost use mathlib.Core.Path.{_≡_};
 ghost use Prim.Native.Nat.{_≤_};
 ghost use lib.ListN.{length};
 ghost use Rattle.json.specs.Reading.{ask};
-ghost use Rattle.fractured_json_rules.specs.Verdict.{counted, inTurn, value};
+ghost use Rattle.fractured_json_rules.specs.Verdict.{numeral, inTurn, value};
 ghost use Rattle.fractured_json_rules.specs.Questions.{backKey, readKey, passKey};
 ghost use Rattle.fractured_json_values.specs.Opened.{entry};
 ghost use Rattle.fractured_json_containers.specs.Asked.{numberedKey, toldKey};
@@ -37,7 +37,7 @@ fn back_key(
     number: usize,
     past: usize,
 ) -> KeyText
-    ensures { λ r. ⌜ toldKey (now (doc .entry)) r ≡ ask (backKey (now (doc .entry)) (now (keys .entry)) count at (counted number past)) ⌝ }
+    ensures { λ r. ⌜ toldKey (now (doc .entry)) r ≡ ask (backKey (now (doc .entry)) (now (keys .entry)) count at (numeral number past)) ⌝ }
 {
     if count <= number {
         return KeyText::Refused(Refusal {
@@ -73,7 +73,7 @@ fn numbered_key(
     past: usize,
 ) -> KeyText
     requires { ⌜ past ≤ length (now doc) ⌝ }
-    ensures { λ r. ⌜ toldKey (now (doc .entry)) r ≡ ask (numberedKey (now (doc .entry)) (now (keys .entry)) count at kind (counted number past)) ⌝ }
+    ensures { λ r. ⌜ toldKey (now (doc .entry)) r ≡ ask (numberedKey (now (doc .entry)) (now (keys .entry)) count at kind (numeral number past)) ⌝ }
 {
     if kind == 0 {
         if doc.len() - past < number {
@@ -117,8 +117,8 @@ pub(crate) fn read_key(doc: &[u8], keys: &[u32], count: usize, at: usize) -> Key
     }
     let n = index_at(doc, at, h.spelled, h.number);
     match n {
-        Counted::Refused(r) => KeyText::Refused(r),
-        Counted::Is { number, past } => numbered_key(doc, keys, count, at, kind, number, past),
+        Numeral::Refused(r) => KeyText::Refused(r),
+        Numeral::Is { number, past } => numbered_key(doc, keys, count, at, kind, number, past),
     }
 }
 

@@ -63,12 +63,12 @@ module _ (doc : List ℕ) (all : Keys) (words : List ℕ) (count : ℕ) (table :
       let less = first-length g′ in
       let c = table .counts in
       let known : j < length all = omega arith in
-      let counted : j < count = omega arith in
+      let under : j < count = omega arith in
       let pair = table .pair j known in
       let fits : keyOf words j .start + keyOf words j .len ≤ length doc = subst (λ (k : Key). k .start + k .len ≤ length doc) (sym pair) (inside-at doc all (table .inside) j known) in
       let text : keyText doc (keyOf words j) ≡ t = ap (keyText doc) (pair ∙ first-key ks all j g′ h) ∙ sym y in
       then _ _ tt (byte-is doc o o tt (s .inside)) ∙ rw (s .form-is) (then _ _ tt (index-is doc o x j e tt i)
-      ∙ (pass _ _ _ _ tt (lt→ltb _ _ counted) ∙ (pass _ _ _ _ tt (le→leb _ _ (table .roomy)) ∙ (pass _ _ _ _ tt (le→leb _ _ fits) ∙ ap (λ b. answers (record { bytes = b; past = e })) text))))
+      ∙ (pass _ _ _ _ tt (lt→ltb _ _ under) ∙ (pass _ _ _ _ tt (le→leb _ _ (table .roomy)) ∙ (pass _ _ _ _ tt (le→leb _ _ fits) ∙ ap (λ b. answers (record { bytes = b; past = e })) text))))
 
   passes-key : (t : List ℕ) (o : ℕ) (ks : Keys) (e : ℕ) (kz : Keys) → KeyIs doc t o ks e kz → FirstOf kz all → ask (passKey doc words count o) ≡ answers e
   unfolding passKey

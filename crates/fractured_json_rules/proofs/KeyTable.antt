@@ -13,7 +13,7 @@ use Rattle.json.specs.Reading.{Outcome, halt, done, Reading, follow, _>>=_, nee
 use Rattle.fractured_json_rules.specs.ByteTables.{Len, tiny, behind, Form, fNull, fBool, fInt, fFloat, fTiny, fString, fObject, fArray, fReserved, formOf}
 use Rattle.fractured_json_rules.specs.ByteTables.{Index, inByte, spelled, KeyForm, immediate, backReference, globalIndex, kReserved, keyFormOf}
 use Rattle.fractured_json_rules.specs.Meaning.{noKey, Keys}
-use Rattle.fractured_json_rules.specs.Verdict.{header, byteAt, payload, lengthAt, Counted, afterSecond, afterFirst, indexAt, inTurn, member, valueBy}
+use Rattle.fractured_json_rules.specs.Verdict.{header, byteAt, payload, lengthAt, Numeral, afterSecond, afterFirst, indexAt, inTurn, member, valueBy}
 use Rattle.fractured_json_rules.specs.Verdict.{value, newKey, oldKey, checkKeyBy, checkKey, check, verdict}
 use Rattle.fractured_json_rules.specs.KeyTable.{roomOf, pairs, stored, keyOf}
 use Rattle.fractured_json_rules.specs.TreeOf.{keysOf}
@@ -81,13 +81,13 @@ module _ (room : ℕ) where
     keeps-index o spelled ks h = keeps-then _ _ (keeps-byte _ _) (λ b0. keeps-first o b0 (ltb b0 128)) ks h
 
     -- the one place where a key is added
-    keeps-new : (o : ℕ) (n : Counted) → Keeps (newKey room doc o n)
+    keeps-new : (o : ℕ) (n : Numeral) → Keeps (newKey room doc o n)
     unfolding newKey
     keeps-new o n ks h =
         keeps-test _ _ _ _ ks h λ _. rw (kept-is _ ks) (keeps-test _ _ _ _ ks h λ _. keeps-test _ _ _ _ ks h λ t.
         let spare = ltb→lt (length ks) room t in rw (keep-is _ _ ks, length-append) (omega arith))
 
-    keeps-old : (o : ℕ) (n : Counted) → Keeps (oldKey o n)
+    keeps-old : (o : ℕ) (n : Numeral) → Keeps (oldKey o n)
     unfolding oldKey
     keeps-old o n ks h = rw (kept-is _ ks) (keeps-test _ _ _ _ ks h λ _. h)
 

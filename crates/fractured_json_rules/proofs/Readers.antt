@@ -14,7 +14,7 @@ use Rattle.json.proofs.Reading.{halt≢done, done-kept, passed, then, pass, nee
 use Rattle.fractured_json_rules.specs.ByteTables.{bytes, Len, tiny, behind, Index, inByte, spelled}
 use Rattle.fractured_json_rules.specs.Meaning.{LengthIs, Spelled, oneByte, twoBytes, threeBytes, IndexIs}
 pub use Rattle.fractured_json_rules.specs.Meaning.{Opens}
-use Rattle.fractured_json_rules.specs.Verdict.{header, byteAt, payload, lengthAt, Counted, counted, afterSecond, afterFirst, indexAt}
+use Rattle.fractured_json_rules.specs.Verdict.{header, byteAt, payload, lengthAt, Numeral, numeral, afterSecond, afterFirst, indexAt}
 
 -- ---- what is kept, read and replaced at the head of a chain
 
@@ -77,8 +77,8 @@ module _ {S B : Type 0} (doc : List ℕ) where
   length-step o (behind w) f s e = let r = payload-step o (bytes w) f s e in (number doc (o + 1) (bytes w), (r .0, refl), r .1)
 
   second-step : (o : ℕ) (l : Bool) → (T l → getD doc (o + 2) 0 < 128) → (T (not l) → 128 ≤ getD doc (o + 2) 0) → o + 2 < length doc → 128 ≤ getD doc (o + 1) 0
-      → (f : Counted → Reading S B) (s : S) {b : B} {z : S} → (afterSecond doc o (getD doc (o + 1) 0) (getD doc (o + 2) 0) l >>= f) s ≡ done b z
-      → (n : ℕ) × (e : ℕ) × Spelled doc o n e × (f (counted n e) s ≡ done b z)
+      → (f : Numeral → Reading S B) (s : S) {b : B} {z : S} → (afterSecond doc o (getD doc (o + 1) 0) (getD doc (o + 2) 0) l >>= f) s ≡ done b z
+      → (n : ℕ) × (e : ℕ) × Spelled doc o n e × (f (numeral n e) s ≡ done b z)
   unfolding afterSecond
   second-step o true p q i h f s e = (_, _, twoBytes i h (p tt) refl refl, answered _ f s e)
   second-step o false p q i h f s e =
@@ -87,16 +87,16 @@ module _ {S B : Type 0} (doc : List ℕ) where
       (_, _, threeBytes (r .0) h (q tt) (leb→le _ _ (t .0)) refl refl, t .1)
 
   first-step : (o : ℕ) (l : Bool) → (T l → getD doc (o + 1) 0 < 128) → (T (not l) → 128 ≤ getD doc (o + 1) 0) → o + 1 < length doc
-      → (f : Counted → Reading S B) (s : S) {b : B} {z : S} → (afterFirst doc o (getD doc (o + 1) 0) l >>= f) s ≡ done b z
-      → (n : ℕ) × (e : ℕ) × Spelled doc o n e × (f (counted n e) s ≡ done b z)
+      → (f : Numeral → Reading S B) (s : S) {b : B} {z : S} → (afterFirst doc o (getD doc (o + 1) 0) l >>= f) s ≡ done b z
+      → (n : ℕ) × (e : ℕ) × Spelled doc o n e × (f (numeral n e) s ≡ done b z)
   unfolding afterFirst
   first-step o true p q i f s e = (_, _, oneByte i (p tt) refl refl, answered _ f s e)
   first-step o false p q i f s e =
       let r = byte-step (o + 2) _ _ s (along _ _ f s e) in
       second-step o (ltb (getD doc (o + 2) 0) 128) (ltb→lt _ _) (nltb→le _ _) (r .0) (q tt) f s (r .1)
 
-  pub index-step : (o : ℕ) (x : Index) (f : Counted → Reading S B) (s : S) {b : B} {z : S} → (indexAt doc o x >>= f) s ≡ done b z
-      → (n : ℕ) × (e : ℕ) × IndexIs doc o x n e × (f (counted n e) s ≡ done b z)
+  pub index-step : (o : ℕ) (x : Index) (f : Numeral → Reading S B) (s : S) {b : B} {z : S} → (indexAt doc o x >>= f) s ≡ done b z
+      → (n : ℕ) × (e : ℕ) × IndexIs doc o x n e × (f (numeral n e) s ≡ done b z)
   unfolding indexAt
   index-step o (inByte n) f s e = (n, o + 1, (refl, refl), answered _ f s e)
   index-step o spelled f s e =
@@ -125,7 +125,7 @@ module _ {S : Type 0} (doc : List ℕ) where
   length-is o (tiny k) n s h = rw h
   length-is o (behind w) n s h = rw (h .1) (payload-is o (bytes w) s (h .0))
 
-  spelled-is : (o n e : ℕ) (s : S) → Spelled doc o n e → indexAt doc o spelled s ≡ done (counted n e) s
+  spelled-is : (o n e : ℕ) (s : S) → Spelled doc o n e → indexAt doc o spelled s ≡ done (numeral n e) s
   unfolding indexAt afterFirst afterSecond
   spelled-is o n e s (oneByte i b p q) =
       then _ _ s (byte-is (o + 1) _ s i) ∙ rw (lt-ltb _ _ b, p, q)
@@ -138,7 +138,7 @@ module _ {S : Type 0} (doc : List ℕ) where
       then _ _ s (byte-is (o + 1) _ s j) ∙ rw (le-ltb _ _ b0) (then _ _ s (byte-is (o + 2) _ s k) ∙ rw (le-ltb _ _ b1)
       (then _ _ s (byte-is (o + 3) _ s i) ∙ rw (p, q) (pass _ _ _ _ s (le→leb _ _ b2))))
 
-  pub index-is : (o : ℕ) (x : Index) (n e : ℕ) (s : S) → IndexIs doc o x n e → indexAt doc o x s ≡ done (counted n e) s
+  pub index-is : (o : ℕ) (x : Index) (n e : ℕ) (s : S) → IndexIs doc o x n e → indexAt doc o x s ≡ done (numeral n e) s
   unfolding indexAt
   index-is o (inByte k) n e s h = rw (h .0, h .1)
   index-is o spelled n e s h = spelled-is o n e s h

@@ -10,7 +10,7 @@ use Rattle.json.specs.Tree.{Tree, null, bool, num, str, arr, obj, Trees, none, 
 use Rattle.fractured_json_rules.specs.ByteTables.{Len, tiny, behind, Form, fNull, fBool, fInt, fFloat, fTiny, fString, Index, inByte, spelled}
 use Rattle.fractured_json_rules.specs.Meaning.{Starts, LengthIs, behindLength, NumberIs, asTiny, asInt, asFloat, oneByte, twoBytes, threeBytes, IndexIs}
 use Rattle.fractured_json_rules.specs.Meaning.{Keys, KeyIs, asText, asBack, ValueIs, ValuesAre, MembersAre}
-use Rattle.fractured_json_rules.specs.Verdict.{counted}
+use Rattle.fractured_json_rules.specs.Verdict.{numeral}
 use Rattle.fractured_json_rules.specs.TreeOf.{lengthIn, spelledIn, indexIn, keyEnd, steps, endBy, endAt, keyTextAt, valueTrees, memberTrees, treeBy, treeAt}
 use Rattle.fractured_json_rules.specs.Leads.{FirstOf}
 use Rattle.fractured_json_rules.proofs.Keys.{first-trans, first-key, grows, grows-all, grows-members}
@@ -22,7 +22,7 @@ module _ (doc : List ℕ) where
   length-in o (tiny k) n h = sym h
   length-in o (behind w) n h = sym (h .1)
 
-  index-in : (o : ℕ) (x : Index) (n e : ℕ) → IndexIs doc o x n e → indexIn doc o x ≡ counted n e
+  index-in : (o : ℕ) (x : Index) (n e : ℕ) → IndexIs doc o x n e → indexIn doc o x ≡ numeral n e
   unfolding spelledIn choose
   index-in o (inByte k) n e h = rw (h .0, h .1)
   index-in o spelled n e (oneByte i b p q) = rw (lt-ltb _ _ b, p, q)

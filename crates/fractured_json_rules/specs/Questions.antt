@@ -17,7 +17,7 @@ use Rattle.json.specs.Span.{Span, spanned}
 use Rattle.json.specs.Texts.{compareTexts, isEqual}
 use Rattle.fractured_json_rules.specs.ByteTables.{bytes, Form, fNull, fBool, fInt, fFloat, fTiny, fString, fObject, fArray, fReserved, formOf, KeyForm, keyFormOf}
 use Rattle.fractured_json_rules.specs.Meaning.{keyText, behindLength}
-use Rattle.fractured_json_rules.specs.Verdict.{header, byteAt, payload, lengthAt, Counted, inTurn, member, value, keyBy}
+use Rattle.fractured_json_rules.specs.Verdict.{header, byteAt, payload, lengthAt, Numeral, inTurn, member, value, keyBy}
 use Rattle.fractured_json_rules.specs.KeyTable.{roomOf, keyOf}
 
 -- ---- before every question, asked at the cursor c
@@ -34,13 +34,13 @@ pub record KeyRead : Type 0 where
   pub bytes : List ℕ
   pub past : ℕ
 
-unfoldable pub textKey : {S : Type 0} → List ℕ → ℕ → Counted → Reading S KeyRead
+unfoldable pub textKey : {S : Type 0} → List ℕ → ℕ → Numeral → Reading S KeyRead
 textKey doc o n = do
   need (leb (n .past + n .is) (length doc)) 35 o
   answer (record { bytes = part doc (n .past) (n .is); past = n .past + n .is })
 
 -- 38 unless the index is under the count, the count not over the room, and the pair inside the document
-unfoldable pub backKey : {S : Type 0} → List ℕ → List ℕ → ℕ → ℕ → Counted → Reading S KeyRead
+unfoldable pub backKey : {S : Type 0} → List ℕ → List ℕ → ℕ → ℕ → Numeral → Reading S KeyRead
 backKey doc words count o n = do
   need (ltb (n .is) count) 38 o
   need (leb count (roomOf words)) 38 o

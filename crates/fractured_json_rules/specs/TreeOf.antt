@@ -12,7 +12,7 @@ use Rattle.json.specs.Reading.{Outcome, halt, done}
 use Rattle.json.specs.Tree.{Tree, null, bool, str, arr, obj, Trees, none, more, Members, end, member}
 use Rattle.fractured_json_rules.specs.ByteTables.{bytes, Len, tiny, behind, Form, fNull, fBool, fInt, fFloat, fTiny, fString, fObject, fArray, fReserved, formOf, Index, inByte, spelled, KeyForm, immediate, backReference, globalIndex, kReserved, keyFormOf}
 use Rattle.fractured_json_rules.specs.Meaning.{noKey, Keys, keyText, behindLength, intTree, tinyTree}
-use Rattle.fractured_json_rules.specs.Verdict.{Counted, counted, verdict}
+use Rattle.fractured_json_rules.specs.Verdict.{Numeral, numeral, verdict}
 
 -- ---- ends
 
@@ -21,15 +21,15 @@ lengthIn doc o (tiny n) = n
 lengthIn doc o (behind w) = number doc (o + 1) (bytes w)
 
 -- a v_uint16 behind the byte at o, whose bytes are b0, b1 and b2
-unfoldable pub spelledIn : ℕ → ℕ → ℕ → ℕ → Counted
+unfoldable pub spelledIn : ℕ → ℕ → ℕ → ℕ → Numeral
 spelledIn o b0 b1 b2 =
-    choose (ltb b0 128) (counted b0 (o + 2))
-    (choose (ltb b1 128) (counted (b0 - 128 + 128 * b1) (o + 3))
-    (counted (b0 - 128 + 128 * (b1 - 128) + 16_384 * b2) (o + 4)))
+    choose (ltb b0 128) (numeral b0 (o + 2))
+    (choose (ltb b1 128) (numeral (b0 - 128 + 128 * b1) (o + 3))
+    (numeral (b0 - 128 + 128 * (b1 - 128) + 16_384 * b2) (o + 4)))
 
 -- the number that the key byte at o carries, and where that ends
-abbrev pub indexIn : List ℕ → ℕ → Index → Counted
-indexIn doc o (inByte n) = counted n (o + 1)
+abbrev pub indexIn : List ℕ → ℕ → Index → Numeral
+indexIn doc o (inByte n) = numeral n (o + 1)
 indexIn doc o spelled = spelledIn o (getD doc (o + 1) 0) (getD doc (o + 2) 0) (getD doc (o + 3) 0)
 
 abbrev pub keyEndBy : List ℕ → ℕ → KeyForm → ℕ

@@ -48,31 +48,31 @@ lengthAt doc o (behind w) = payload doc o (bytes w)
 -- ---- 37: v_uint16, byte by byte
 
 -- a number, and where it ends
-pub record Counted : Type 0 where
+pub record Numeral : Type 0 where
   pub is : ℕ
   pub past : ℕ
 
-abbrev pub counted : ℕ → ℕ → Counted
-counted n e = record { is = n; past = e }
+abbrev pub numeral : ℕ → ℕ → Numeral
+numeral n e = record { is = n; past = e }
 
 -- behind the byte at o stand b0, b1 and perhaps a third; the last argument says whether b1 is the last
-unfoldable pub afterSecond : {S : Type 0} → List ℕ → ℕ → ℕ → ℕ → Bool → Reading S Counted
-afterSecond doc o b0 b1 true = answer (counted (b0 - 128 + 128 * b1) (o + 3))
+unfoldable pub afterSecond : {S : Type 0} → List ℕ → ℕ → ℕ → ℕ → Bool → Reading S Numeral
+afterSecond doc o b0 b1 true = answer (numeral (b0 - 128 + 128 * b1) (o + 3))
 afterSecond doc o b0 b1 false = do
   b2 ← byteAt doc (o + 3) o
   need (leb b2 3) 37 (o + 3)
-  answer (counted (b0 - 128 + 128 * (b1 - 128) + 16_384 * b2) (o + 4))
+  answer (numeral (b0 - 128 + 128 * (b1 - 128) + 16_384 * b2) (o + 4))
 
 -- b0 and perhaps more; the last argument says whether b0 is the last
-unfoldable pub afterFirst : {S : Type 0} → List ℕ → ℕ → ℕ → Bool → Reading S Counted
-afterFirst doc o b0 true = answer (counted b0 (o + 2))
+unfoldable pub afterFirst : {S : Type 0} → List ℕ → ℕ → ℕ → Bool → Reading S Numeral
+afterFirst doc o b0 true = answer (numeral b0 (o + 2))
 afterFirst doc o b0 false = do
   b1 ← byteAt doc (o + 2) o
   afterSecond doc o b0 b1 (ltb b1 128)
 
 -- the number that the key byte at o carries
-unfoldable pub indexAt : {S : Type 0} → List ℕ → ℕ → Index → Reading S Counted
-indexAt doc o (inByte n) = answer (counted n (o + 1))
+unfoldable pub indexAt : {S : Type 0} → List ℕ → ℕ → Index → Reading S Numeral
+indexAt doc o (inByte n) = answer (numeral n (o + 1))
 indexAt doc o spelled = do
   b0 ← byteAt doc (o + 1) o
   afterFirst doc o b0 (ltb b0 128)
@@ -129,7 +129,7 @@ value key (suc levels) doc o = do
 
 -- `byLength` goes on with the length of an immediate key's text, `byIndex` with the index of a back reference; no global index
 -- is found yet
-abbrev pub keyBy : {S A : Type 0} → List ℕ → ℕ → (Counted → Reading S A) → (Counted → Reading S A) → KeyForm → Reading S A
+abbrev pub keyBy : {S A : Type 0} → List ℕ → ℕ → (Numeral → Reading S A) → (Numeral → Reading S A) → KeyForm → Reading S A
 keyBy doc o byLength byIndex (immediate x) = indexAt doc o x >>= byLength
 keyBy doc o byLength byIndex (backReference x) = indexAt doc o x >>= byIndex
 keyBy doc o byLength byIndex (globalIndex x) = indexAt doc o x >>= λ _. refuse 38 o
@@ -143,7 +143,7 @@ met doc t [] = false
 met doc t (k ∷ ks) = choose (isEqual (compareTexts (keyText doc k) t)) true (met doc t ks)
 
 -- an immediate key at o, whose text is n .is bytes from n .past on; passed, it has its number before its value is read
-unfoldable pub newKey : ℕ → List ℕ → ℕ → Counted → Reading Keys ℕ
+unfoldable pub newKey : ℕ → List ℕ → ℕ → Numeral → Reading Keys ℕ
 newKey room doc o n = do
   need (leb (n .past + n .is) (length doc)) 35 o
   ks ← kept
@@ -152,7 +152,7 @@ newKey room doc o n = do
   keep (ks ++ (record { start = n .past; len = n .is } ∷ []))
   answer (n .past + n .is)
 
-unfoldable pub oldKey : ℕ → Counted → Reading Keys ℕ
+unfoldable pub oldKey : ℕ → Numeral → Reading Keys ℕ
 oldKey o n = do
   ks ← kept
   need (ltb (n .is) (length ks)) 38 o

@@ -12,15 +12,16 @@ use Rattle.json.specs.declared.Refusal.{Refusal}
 use Rattle.json.specs.declared.Verdict.{Verdict}
 use Rattle.json.proofs.Reading.{then, stops, need-yes, need-no, assoc}
 use Rattle.fractured_json_rules.specs.ByteTables.{Form, formOf}
-use Rattle.fractured_json_rules.specs.Verdict.{header, byteAt, Counted as Numbered}
+use Rattle.fractured_json_rules.specs.Verdict.{header, byteAt}
+use Rattle.fractured_json_rules.specs.Verdict as Rules
 use Rattle.fractured_json_rules.specs.Questions.{opening}
 use Rattle.fractured_json_rules.proofs.Readers.{byte-is}
 use Rattle.fractured_json_values.specs.Heads.{headOf}
-use Rattle.fractured_json_values.specs.Opened.{sizedAt, Counts}
+use Rattle.fractured_json_values.specs.Opened.{sizedAt, ReadsNumeral}
 use Rattle.fractured_json_scalars.specs.Asked.{entering, Enters, wantedHead, wantedAt}
 use Rattle.fractured_json_values.specs.declared.types.Head.{Head}
 use Rattle.fractured_json_scalars.specs.declared.enter.Entered.{Entered}
-use Rattle.fractured_json_values.specs.declared.values.Counted.{Counted}
+use Rattle.fractured_json_values.specs.declared.values.Numeral.{Numeral}
 use Rattle.fractured_json_values.proofs.Numbering.{byte-past}
 use Rattle.fractured_json_values.proofs.Opening.{over, head-width}
 use Rattle.fractured_json_values.proofs.Walks.{then-same}
@@ -95,7 +96,7 @@ module _ (doc : List ℕ) (at want : ℕ) (e : Entered) (es : Enters doc at e) w
     wanted-reserved k = by-head ∙ rw k
 
     module _ (n : h .kind ≡ 11 → ⊥) where
-      pub wanted-sized : (c : Counted) → h .kind ≡ want → Counts (length doc) (ask (sizedAt doc at (h .width) (h .tiny))) c → Counts (length doc) (ask (wantedAt doc at want)) c
+      pub wanted-sized : (c : Numeral) → h .kind ≡ want → ReadsNumeral (length doc) (ask (sizedAt doc at (h .width) (h .tiny))) c → ReadsNumeral (length doc) (ask (wantedAt doc at want)) c
       unfolding wantedHead choose
       wanted-sized c k s =
           let e : ask (wantedAt doc at want) ≡ ask (sizedAt doc at (h .width) (h .tiny)) = by-head ∙ rw (ne-eqb (h .kind) 11 n, eq-eqb (h .kind) want k) in
@@ -110,15 +111,15 @@ pub ruleset wanted-laws = (entered-inside, head-width, wanted-refused, wanted-re
 -- ---- what goes on behind a length
 
 -- a question of one kind: its rest follows the length
-pub behind-length : {A : Type 0} (doc : List ℕ) (at want : ℕ) (by : Form → Reading (Unit {0}) A) (rest : Numbered → Reading (Unit {0}) A)
+pub behind-length : {A : Type 0} (doc : List ℕ) (at want : ℕ) (by : Form → Reading (Unit {0}) A) (rest : Rules.Numeral → Reading (Unit {0}) A)
     → ((f : Form) (s : Unit {0}) → by f s ≡ (wantedHead doc at want (headOf f) >>= rest) s)
     → ask (opening doc at >>= λ _. byteAt doc at at >>= λ b. by (formOf b)) ≡ ask (wantedAt doc at want >>= rest)
 unfolding wantedAt
 behind-length doc at want by rest h = asks-behind doc at _ ∙ (then-same (entering doc at) _ _ tt (λ b s. h (formOf b) s) ∙ sym (assoc _ _ rest tt))
 
-module _ {A : Type 0} (doc : List ℕ) (at want : ℕ) (rest : Numbered → Reading (Unit {0}) A) (c : Counted) (cs : Counts (length doc) (ask (wantedAt doc at want)) c) where
-  pub length-refused : (r : Refusal) → c ≡ Counted.Refused r → ask (wantedAt doc at want >>= rest) ≡ refuses (r .number) (r .place)
+module _ {A : Type 0} (doc : List ℕ) (at want : ℕ) (rest : Rules.Numeral → Reading (Unit {0}) A) (c : Numeral) (cs : ReadsNumeral (length doc) (ask (wantedAt doc at want)) c) where
+  pub length-refused : (r : Refusal) → c ≡ Numeral.Refused r → ask (wantedAt doc at want >>= rest) ≡ refuses (r .number) (r .place)
   length-refused r q = stops _ _ tt (rw q at cs)
 
-  pub length-read : (n p : ℕ) → c ≡ Counted.Is n p → ask (wantedAt doc at want >>= rest) ≡ ask (rest (record { is = n; past = p }))
-  length-read n p q = let w : Counts (length doc) (ask (wantedAt doc at want)) (Counted.Is n p) = rw q at cs in then _ _ tt (w .0)
+  pub length-read : (n p : ℕ) → c ≡ Numeral.Is n p → ask (wantedAt doc at want >>= rest) ≡ ask (rest (record { is = n; past = p }))
+  length-read n p q = let w : ReadsNumeral (length doc) (ask (wantedAt doc at want)) (Numeral.Is n p) = rw q at cs in then _ _ tt (w .0)

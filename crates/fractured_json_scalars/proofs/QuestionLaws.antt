@@ -12,15 +12,15 @@ use Rattle.json.specs.declared.Refusal.{Refusal}
 use Rattle.json.proofs.Reading.{pass, fail}
 use Rattle.fractured_json_rules.specs.ByteTables.{formOf}
 use Rattle.fractured_json_rules.specs.Questions.{Kind, kindBy, kind, Bits, numberBy, numberAt, stringBy, stringAt, stringBytes}
-use Rattle.fractured_json_values.specs.Opened.{Counts}
+use Rattle.fractured_json_values.specs.Opened.{ReadsNumeral}
 use Rattle.fractured_json_scalars.specs.Asked.{Enters, wantedAt}
 use Rattle.fractured_json_answers.specs.Told.{toldText}
 use Rattle.fractured_json_answers.specs.declared.Text.{Text}
 use Rattle.fractured_json_scalars.specs.declared.enter.Entered.{Entered}
-use Rattle.fractured_json_values.specs.declared.values.Counted.{Counted}
+use Rattle.fractured_json_values.specs.declared.values.Numeral.{Numeral}
 use Rattle.fractured_json_scalars.proofs.Entering.{entered-inside, enters-refused, enters-read, asks-behind, behind-length, length-refused, length-read}
 use Rattle.fractured_json_scalars.proofs.Forms.{stringRest, string-form}
-use Rattle.fractured_json_values.proofs.Opening.{over, counts-inside}
+use Rattle.fractured_json_values.proofs.Opening.{over, numeral-inside}
 
 -- ---- its kind, and its number
 
@@ -47,31 +47,31 @@ pub ruleset number-laws = (entered-inside, number-refused, number-read, needs)
 
 -- ---- its string
 
-module _ (doc : List ℕ) (at : ℕ) (c : Counted) (cs : Counts (length doc) (ask (wantedAt doc at 8)) c) where
+module _ (doc : List ℕ) (at : ℕ) (c : Numeral) (cs : ReadsNumeral (length doc) (ask (wantedAt doc at 8)) c) where
   string-behind : ask (stringAt doc at) ≡ ask (wantedAt doc at 8 >>= λ n. stringRest doc at (n .is) (n .past))
   unfolding stringAt
   string-behind = behind-length doc at 8 (stringBy doc at) (λ n. stringRest doc at (n .is) (n .past)) (string-form doc at)
 
-  pub string-refused : (r : Refusal) → c ≡ Counted.Refused r → refuses (r .number) (r .place) ≡ ask (stringAt doc at)
+  pub string-refused : (r : Refusal) → c ≡ Numeral.Refused r → refuses (r .number) (r .place) ≡ ask (stringAt doc at)
   string-refused r q = sym (string-behind ∙ length-refused doc at 8 _ c cs r q)
 
-  module _ (n p : ℕ) (q : c ≡ Counted.Is n p) where
+  module _ (n p : ℕ) (q : c ≡ Numeral.Is n p) where
     text-by : ask (stringAt doc at) ≡ ask (stringRest doc at n p)
     text-by = string-behind ∙ length-read doc at 8 (λ n. stringRest doc at (n .is) (n .past)) c cs n p q
 
     pub text-outside : length doc - p < n → refuses 35 at ≡ ask (stringAt doc at)
     text-outside h =
-        let i = counts-inside (length doc) _ c n p cs q in
+        let i = numeral-inside (length doc) _ c n p cs q in
         let o : length doc < p + n = omega arith in
         sym (text-by ∙ fail _ _ _ _ tt (over o))
 
     pub text-inside : n ≤ length doc - p → answers (record { place = p; len = n }) ≡ ask (stringAt doc at)
     text-inside h =
-        let i = counts-inside (length doc) _ c n p cs q in
+        let i = numeral-inside (length doc) _ c n p cs q in
         let o : p + n ≤ length doc = omega arith in
         sym (text-by ∙ pass _ _ _ _ tt (le→leb _ _ o))
 
-pub ruleset string-laws = (counts-inside, string-refused, text-outside, text-inside, needs)
+pub ruleset string-laws = (numeral-inside, string-refused, text-outside, text-inside, needs)
 
 -- and its text
 module _ (doc : List ℕ) (at : ℕ) (t : Text) (ts : toldText t ≡ ask (stringAt doc at)) where

@@ -9,7 +9,7 @@ use lib.ListN.{length}
 use Rattle.json.specs.Choose.{choose}
 use Rattle.json.specs.Reading.{Reading, ask, answers, refuses, answer, refuse, _>>=_, _>>_, need}
 use Rattle.fractured_json_rules.specs.ByteTables.{formOf}
-use Rattle.fractured_json_rules.specs.Verdict.{byteAt, Counted}
+use Rattle.fractured_json_rules.specs.Verdict.{byteAt, Numeral}
 use Rattle.fractured_json_rules.specs.Questions.{opening, Kind, isNull, isFalse, isTrue, isNumber, isString, isObject, isArray, Bits, extended, tinyBits}
 use Rattle.fractured_json_values.specs.Heads.{headOf}
 use Rattle.fractured_json_values.specs.Opened.{sizedAt, finiteKind}
@@ -29,10 +29,10 @@ Enters doc c (Entered.Refused r) = ask (entering doc c) ≡ refuses (r .number) 
 
 -- ---- the length of a string (8), object (9) or array (10), and where what it measures starts; 21 of any other kind
 
-unfoldable pub wantedHead : {S : Type 0} → List ℕ → ℕ → ℕ → Head → Reading S Counted
+unfoldable pub wantedHead : {S : Type 0} → List ℕ → ℕ → ℕ → Head → Reading S Numeral
 wantedHead doc c want h = choose (eqb (h .kind) 11) (refuse 36 c) (choose (eqb (h .kind) want) (sizedAt doc c (h .width) (h .tiny)) (refuse 21 c))
 
-unfoldable pub wantedAt : {S : Type 0} → List ℕ → ℕ → ℕ → Reading S Counted
+unfoldable pub wantedAt : {S : Type 0} → List ℕ → ℕ → ℕ → Reading S Numeral
 wantedAt doc c want = do
   b ← entering doc c
   wantedHead doc c want (headOf (formOf b))

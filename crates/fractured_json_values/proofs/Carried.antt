@@ -7,7 +7,7 @@ use lib.Dec.{ltb, eqb}
 use Rattle.json.specs.Choose.{choose}
 use Rattle.json.specs.Reading.{Outcome, halt, done, Reading, Asked, ask, answers, refuses, follow, _>>=_, need}
 use Rattle.fractured_json_rules.specs.ByteTables.{Index, inByte, spelled, formOf}
-use Rattle.fractured_json_rules.specs.Verdict.{byteAt, payload, Counted, afterSecond, afterFirst, indexAt, header}
+use Rattle.fractured_json_rules.specs.Verdict.{byteAt, payload, Numeral, afterSecond, afterFirst, indexAt, header}
 use Rattle.fractured_json_values.specs.Heads.{headOf}
 use Rattle.fractured_json_values.specs.Opened.{sizedAt, Opened, openKind, openHead, openedAt}
 use Rattle.fractured_json_values.specs.declared.types.Head.{Head}
@@ -57,7 +57,7 @@ module _ {S : Type 0} where
     carry-index o (inByte n) s = refl
     carry-index o spelled s = carry-then _ _ _ _ s (carry-byte _ _ s) (λ b0. carry-first o b0 (ltb b0 128) s)
 
-    pub index-done : (o : ℕ) (x : Index) (n : Counted) (s : S) → ask (indexAt doc o x) ≡ answers n → indexAt doc o x s ≡ done n s
+    pub index-done : (o : ℕ) (x : Index) (n : Numeral) (s : S) → ask (indexAt doc o x) ≡ answers n → indexAt doc o x s ≡ done n s
     index-done o x n s e = carry-index o x s ∙ rw e
 
     pub index-halts : (o : ℕ) (x : Index) (n p : ℕ) (s : S) → ask (indexAt doc o x) ≡ refuses n p → indexAt doc o x s ≡ halt n p s

@@ -11,11 +11,11 @@ use lib.ListN.{length, getD}
 use Rattle.json.specs.Reading.{ask, answers, refuses}
 use Rattle.json.proofs.Reading.{then, stops, pass, fail}
 use Rattle.fractured_json_rules.specs.ByteTables.{spelled}
-use Rattle.fractured_json_rules.specs.Verdict.{byteAt, counted, afterSecond, afterFirst, indexAt}
+use Rattle.fractured_json_rules.specs.Verdict.{byteAt, numeral, afterSecond, afterFirst, indexAt}
 use Rattle.fractured_json_rules.proofs.Readers.{byte-is}
-use Rattle.fractured_json_values.specs.Opened.{Counts}
+use Rattle.fractured_json_values.specs.Opened.{ReadsNumeral}
 use Rattle.fractured_json_values.specs.Heads.{indexBy}
-use Rattle.fractured_json_values.specs.declared.values.Counted.{Counted}
+use Rattle.fractured_json_values.specs.declared.values.Numeral.{Numeral}
 use Rattle.fractured_json_values.proofs.Opening.{over}
 
 pub byte-past : (doc : List ℕ) (o p : ℕ) → length doc ≤ o → ask (byteAt doc o p) ≡ refuses 35 p
@@ -34,11 +34,11 @@ module _ (doc : List ℕ) (at : ℕ) where
     unfolding indexAt
     first = then _ _ tt (byte-is doc (at + 1) at tt (omega arith)) ∙ rw e
 
-    pub first-last : b0 < 128 → ask (indexAt doc at spelled) ≡ answers (counted b0 (at + 2))
+    pub first-last : b0 < 128 → ask (indexAt doc at spelled) ≡ answers (numeral b0 (at + 2))
     unfolding afterFirst
     first-last l = first ∙ rw (lt-ltb b0 128 l)
 
-    pub first-more : (c : Counted) → 128 ≤ b0 → Counts (length doc) (ask (afterFirst doc at b0 false)) c → Counts (length doc) (ask (indexAt doc at spelled)) c
+    pub first-more : (c : Numeral) → 128 ≤ b0 → ReadsNumeral (length doc) (ask (afterFirst doc at b0 false)) c → ReadsNumeral (length doc) (ask (indexAt doc at spelled)) c
     first-more c l s = rw (first ∙ ap (λ b. ask (afterFirst doc at b0 b)) (le-ltb b0 128 l)) s
 
   -- ---- the second and the third
@@ -53,7 +53,7 @@ module _ (doc : List ℕ) (at : ℕ) where
       unfolding afterFirst
       second = then _ _ tt (byte-is doc (at + 2) at tt (omega arith)) ∙ rw e
 
-      pub second-last : b1 < 128 → ask (afterFirst doc at b0 false) ≡ answers (counted (b0 - 128 + 128 * b1) (at + 3))
+      pub second-last : b1 < 128 → ask (afterFirst doc at b0 false) ≡ answers (numeral (b0 - 128 + 128 * b1) (at + 3))
       unfolding afterSecond
       second-last l = second ∙ rw (lt-ltb b1 128 l)
 
@@ -70,17 +70,17 @@ module _ (doc : List ℕ) (at : ℕ) where
           unfolding afterSecond
           third-wide l = second-more ∙ (then _ _ tt (byte-is doc (at + 3) at tt (omega arith)) ∙ rw (← f) (fail _ _ _ _ tt (over l)))
 
-          pub third-last : b2 ≤ 3 → ask (afterFirst doc at b0 false) ≡ answers (counted (b0 - 128 + 128 * (b1 - 128) + 16_384 * b2) (at + 4))
+          pub third-last : b2 ≤ 3 → ask (afterFirst doc at b0 false) ≡ answers (numeral (b0 - 128 + 128 * (b1 - 128) + 16_384 * b2) (at + 4))
           unfolding afterSecond
           third-last l = second-more ∙ (then _ _ tt (byte-is doc (at + 3) at tt (omega arith)) ∙ rw (← f) (pass _ _ _ _ tt (le→leb _ _ l)))
 
   -- ---- in the key byte, or behind it
 
-  pub index-in-byte : (s n : ℕ) → s ≡ 0 → ask (indexAt doc at (indexBy s n)) ≡ answers (counted n (at + 1))
+  pub index-in-byte : (s n : ℕ) → s ≡ 0 → ask (indexAt doc at (indexBy s n)) ≡ answers (numeral n (at + 1))
   unfolding indexAt
   index-in-byte s n e = rw e
 
-  pub index-spelled : (s n : ℕ) (c : Counted) → (s ≡ 0 → ⊥) → Counts (length doc) (ask (indexAt doc at spelled)) c → Counts (length doc) (ask (indexAt doc at (indexBy s n))) c
+  pub index-spelled : (s n : ℕ) (c : Numeral) → (s ≡ 0 → ⊥) → ReadsNumeral (length doc) (ask (indexAt doc at spelled)) c → ReadsNumeral (length doc) (ask (indexAt doc at (indexBy s n))) c
   index-spelled zero n c f h = absurd (f refl)
   index-spelled (suc s) n c f h = h
 

@@ -18,13 +18,13 @@ use Rattle.json.specs.Reading.{Outcome, ask, answers, refuses, _>>=_}
 use Rattle.json.proofs.Bytes.{number-small}
 use Rattle.json.proofs.Reading.{then, stops, pass, fail}
 use Rattle.fractured_json_rules.specs.ByteTables.{one, two, four, eight, tiny, behind, Form, fNull, fBool, fInt, fFloat, fTiny, fString, fObject, fArray, fReserved, formOf}
-use Rattle.fractured_json_rules.specs.Verdict.{byteAt, payload, counted}
+use Rattle.fractured_json_rules.specs.Verdict.{byteAt, payload, numeral}
 use Rattle.fractured_json_rules.specs.Verdict as Rules
 use Rattle.fractured_json_rules.proofs.Readers.{byte-is, payload-is}
 use Rattle.fractured_json_values.specs.Heads.{headOf}
-use Rattle.fractured_json_values.specs.Opened.{sizedAt, leaf, inside, finiteKind, finiteAt, FloatInside, FloatWidth, LengthWidth, openKind, openHead, openedAt, Counts, toldOpen}
+use Rattle.fractured_json_values.specs.Opened.{sizedAt, leaf, inside, finiteKind, finiteAt, FloatInside, FloatWidth, LengthWidth, openKind, openHead, openedAt, ReadsNumeral, toldOpen}
 use Rattle.fractured_json_values.specs.declared.types.Head.{Head}
-use Rattle.fractured_json_values.specs.declared.values.Counted.{Counted}
+use Rattle.fractured_json_values.specs.declared.values.Numeral.{Numeral}
 use Rattle.fractured_json_values.specs.declared.values.Open.{Open}
 use Rattle.fractured_json_values.proofs.Forms.{every-form}
 
@@ -81,7 +81,7 @@ pub head-width : (h : Head) (f : Form) → h ≡ headOf f → h .width ≤ 8
 head-width h f e = rw e (width-small f)
 
 module _ (doc : List ℕ) (at width tiny : ℕ) where
-  pub in-byte : width ≡ 0 → at < length doc → ask (sizedAt doc at width tiny) ≡ answers (counted tiny (at + 1))
+  pub in-byte : width ≡ 0 → at < length doc → ask (sizedAt doc at width tiny) ≡ answers (numeral tiny (at + 1))
   unfolding sizedAt choose
   in-byte z h = rw z
 
@@ -93,7 +93,7 @@ module _ (doc : List ℕ) (at width tiny : ℕ) where
         rw (ne-eqb width 0 more) (stops _ _ tt (fail _ _ _ _ tt (over o)))
 
     pub payload-read : (n : ℕ) → at < length doc → width < length doc - at → n ≡ number doc (at + 1) width
-        → ask (sizedAt doc at width tiny) ≡ answers (counted n (at + 1 + width))
+        → ask (sizedAt doc at width tiny) ≡ answers (numeral n (at + 1 + width))
     unfolding sizedAt choose
     payload-read n i h e =
         let o : at + 1 + width ≤ length doc = omega arith in
@@ -344,7 +344,7 @@ module _ (doc : List ℕ) (at : ℕ) where
             → toldOpen o ≡ ask (openedAt doc at)
         opened-long n o e q = rw e at q ∙ sym wide
 
-pub counts-inside : (len : ℕ) (q : Outcome (Unit {0}) Rules.Counted) (c : Counted) (n p : ℕ) → Counts len q c → c ≡ Counted.Is n p → p ≤ len
-counts-inside len q c n p s e = let w : Counts len q (Counted.Is n p) = rw e at s in w .1
+pub numeral-inside : (len : ℕ) (q : Outcome (Unit {0}) Rules.Numeral) (c : Numeral) (n p : ℕ) → ReadsNumeral len q c → c ≡ Numeral.Is n p → p ≤ len
+numeral-inside len q c n p s e = let w : ReadsNumeral len q (Numeral.Is n p) = rw e at s in w .1
 
 pub ruleset open-laws = (open-past, opened-tiny, tiny-width, opened-short, float-width, opened-scalar, length-width, opened-long, needs)

@@ -13,7 +13,7 @@ use Rattle.json.specs.Reading.{Outcome, halt, done, Reading, ask, answers, refu
 use Rattle.json.proofs.Reading.{then, stops, assoc}
 use Rattle.fractured_json_rules.specs.ByteTables.{Width, one, two, four, eight, bytes, Len, tiny, behind, Form, fNull, fBool, fInt, fFloat, fTiny, fString, fObject, fArray, fReserved, formOf}
 use Rattle.fractured_json_rules.specs.Meaning.{behindLength}
-use Rattle.fractured_json_rules.specs.Verdict.{byteAt, payload, lengthAt, Counted, counted, inTurn, member, valueBy, value}
+use Rattle.fractured_json_rules.specs.Verdict.{byteAt, payload, lengthAt, Numeral, numeral, inTurn, member, valueBy, value}
 use Rattle.fractured_json_values.specs.Heads.{widthIn, tinyIn, headOf}
 use Rattle.fractured_json_values.specs.Opened.{sizedAt, Opened, leaf, inside, finiteKind, openKind, openHead, openedAt, entry}
 use Rattle.fractured_json_values.proofs.Carried.{opened-done, opened-halts}
@@ -66,10 +66,10 @@ module _ {S : Type 0} where
     pub payload-sized : (w : Width) (f : ℕ → ℕ → Reading S A) (s : S)
         → (payload doc o (bytes w) >>= λ n. f n (o + 1 + bytes w)) s ≡ (sizedAt doc o (bytes w) 0 >>= λ n. f (n .is) (n .past)) s
     unfolding sizedAt choose _>>=_ follow
-    payload-sized one f s = sym (assoc (payload doc o 1) (λ n. answer (counted n (o + 1 + 1))) (λ n. f (n .is) (n .past)) s)
-    payload-sized two f s = sym (assoc (payload doc o 2) (λ n. answer (counted n (o + 1 + 2))) (λ n. f (n .is) (n .past)) s)
-    payload-sized four f s = sym (assoc (payload doc o 4) (λ n. answer (counted n (o + 1 + 4))) (λ n. f (n .is) (n .past)) s)
-    payload-sized eight f s = sym (assoc (payload doc o 8) (λ n. answer (counted n (o + 1 + 8))) (λ n. f (n .is) (n .past)) s)
+    payload-sized one f s = sym (assoc (payload doc o 1) (λ n. answer (numeral n (o + 1 + 1))) (λ n. f (n .is) (n .past)) s)
+    payload-sized two f s = sym (assoc (payload doc o 2) (λ n. answer (numeral n (o + 1 + 2))) (λ n. f (n .is) (n .past)) s)
+    payload-sized four f s = sym (assoc (payload doc o 4) (λ n. answer (numeral n (o + 1 + 4))) (λ n. f (n .is) (n .past)) s)
+    payload-sized eight f s = sym (assoc (payload doc o 8) (λ n. answer (numeral n (o + 1 + 8))) (λ n. f (n .is) (n .past)) s)
 
     pub length-sized : (x : Len) (f : ℕ → ℕ → Reading S A) (s : S)
         → (lengthAt doc o x >>= λ n. f n (behindLength o x)) s ≡ (sizedAt doc o (widthIn x) (tinyIn x) >>= λ n. f (n .is) (n .past)) s
@@ -97,16 +97,16 @@ module _ {S : Type 0} where
 
     float-form : (w : Width) (s : S) → valueBy doc o array object (fFloat (floatOf w) w) s ≡ (sizedAt doc o (bytes w) 0 >>= λ n. rest (headOf (fFloat (floatOf w) w) .kind) (n .is) (n .past)) s
     unfolding valueBy openKind finiteKind choose
-    float-form one s = payload-sized doc o one (λ n e. need (finite binary32 n) 43 o >>= λ _. answer e) s ∙ then-same {A = Counted} _ _ _ s (λ n z. tested (finite binary32 (n .is)) 43 o (n .past) z)
-    float-form two s = payload-sized doc o two (λ n e. need (finite binary32 n) 43 o >>= λ _. answer e) s ∙ then-same {A = Counted} _ _ _ s (λ n z. tested (finite binary32 (n .is)) 43 o (n .past) z)
-    float-form four s = payload-sized doc o four (λ n e. need (finite binary32 n) 43 o >>= λ _. answer e) s ∙ then-same {A = Counted} _ _ _ s (λ n z. tested (finite binary32 (n .is)) 43 o (n .past) z)
-    float-form eight s = payload-sized doc o eight (λ n e. need (finite binary64 n) 43 o >>= λ _. answer e) s ∙ then-same {A = Counted} _ _ _ s (λ n z. tested (finite binary64 (n .is)) 43 o (n .past) z)
+    float-form one s = payload-sized doc o one (λ n e. need (finite binary32 n) 43 o >>= λ _. answer e) s ∙ then-same {A = Numeral} _ _ _ s (λ n z. tested (finite binary32 (n .is)) 43 o (n .past) z)
+    float-form two s = payload-sized doc o two (λ n e. need (finite binary32 n) 43 o >>= λ _. answer e) s ∙ then-same {A = Numeral} _ _ _ s (λ n z. tested (finite binary32 (n .is)) 43 o (n .past) z)
+    float-form four s = payload-sized doc o four (λ n e. need (finite binary32 n) 43 o >>= λ _. answer e) s ∙ then-same {A = Numeral} _ _ _ s (λ n z. tested (finite binary32 (n .is)) 43 o (n .past) z)
+    float-form eight s = payload-sized doc o eight (λ n e. need (finite binary64 n) 43 o >>= λ _. answer e) s ∙ then-same {A = Numeral} _ _ _ s (λ n z. tested (finite binary64 (n .is)) 43 o (n .past) z)
 
     string-form : (x : Len) (s : S) → valueBy doc o array object (fString x) s ≡ (sizedAt doc o (widthIn x) (tinyIn x) >>= λ n. rest 8 (n .is) (n .past)) s
     unfolding valueBy openKind choose
     string-form x s =
         length-sized doc o x (λ n e. need (leb (e + n) (length doc)) 35 o >>= λ _. answer (e + n)) s
-        ∙ then-same {A = Counted} _ _ _ s (λ n z. tested (leb (n .past + n .is) (length doc)) 35 o (n .past + n .is) z)
+        ∙ then-same {A = Numeral} _ _ _ s (λ n z. tested (leb (n .past + n .is) (length doc)) 35 o (n .past + n .is) z)
 
     sized-form : (f : Form) → Sound f → (s : S) → valueBy doc o array object f s ≡ (sizedAt doc o (headOf f .width) (headOf f .tiny) >>= λ n. rest (headOf f .kind) (n .is) (n .past)) s
     unfolding valueBy sizedAt openKind finiteKind choose _>>=_ follow need
