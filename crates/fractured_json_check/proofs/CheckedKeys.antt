@@ -16,10 +16,10 @@ use Rattle.json.specs.Reading.{Outcome, halt, done, ask, _>>=_}
 use Rattle.json.specs.declared.Refusal.{Refusal}
 use Rattle.json.proofs.Reading.{then, stops, pass, fail}
 use Rattle.fractured_json_rules.specs.ByteTables.{keyFormOf}
-use Rattle.fractured_json_rules.specs.Verdict.{byteAt, numeral, indexAt}
+use Rattle.fractured_json_rules.specs.Verdict.{byteAt, numeral, keyNumberAt}
 use Rattle.fractured_json_rules.specs.KeyTable.{roomOf}
 use Rattle.fractured_json_rules.proofs.Readers.{kept-is, keep-is, byte-is}
-use Rattle.fractured_json_values.specs.Heads.{keyHeadOf, indexBy}
+use Rattle.fractured_json_values.specs.Heads.{keyHeadOf, keyNumberBy}
 use Rattle.fractured_json_values.specs.Opened.{ReadsNumeral}
 use Rattle.fractured_json_check.specs.Known.{Known}
 use Rattle.fractured_json_check.specs.Table.{Table, table, freshKeyIn, newKeyIn, oldKeyIn, numberedIn, keyHeadIn, keyIn}
@@ -27,7 +27,7 @@ use Rattle.fractured_json_values.specs.declared.types.KeyHead.{KeyHead}
 use Rattle.fractured_json_values.specs.declared.values.Numeral.{Numeral}
 use Rattle.fractured_json_keys.specs.Passed.{withPair}
 use Rattle.fractured_json_keys.specs.Chains.{bucketsIn, bucketOf, seenIn, linkedIn}
-use Rattle.fractured_json_values.proofs.Carried.{index-done, index-halts}
+use Rattle.fractured_json_values.proofs.Carried.{key-number-done, key-number-halts}
 use Rattle.fractured_json_values.proofs.Opening.{over, numeral-inside}
 
 -- ---- an immediate key
@@ -114,19 +114,19 @@ module _ (doc : List ℕ) (at count : ℕ) (words links : List ℕ) where
     key-reserved e = sym (begins ∙ rw e)
 
     module _ (f : h .kind ≡ 3 → ⊥) where
-      goes-on : keyIn doc at (table count words links) ≡ (indexAt doc at (indexBy (h .spelled) (h .number)) >>= λ n. numberedIn doc at (h .kind) n) (table count words links)
+      goes-on : keyIn doc at (table count words links) ≡ (keyNumberAt doc at (keyNumberBy (h .spelled) (h .number)) >>= λ n. numberedIn doc at (h .kind) n) (table count words links)
       unfolding keyHeadIn choose
       goes-on = begins ∙ rw (ne-eqb (h .kind) 3 f)
 
-      pub key-refused : (c : Numeral) (r : Refusal) → ReadsNumeral (length doc) (ask (indexAt doc at (indexBy (h .spelled) (h .number)))) c → c ≡ Numeral.Refused r
+      pub key-refused : (c : Numeral) (r : Refusal) → ReadsNumeral (length doc) (ask (keyNumberAt doc at (keyNumberBy (h .spelled) (h .number)))) c → c ≡ Numeral.Refused r
           → halt (r .number) (r .place) (table count words links) ≡ keyIn doc at (table count words links)
-      key-refused c r s e = sym (goes-on ∙ stops _ _ _ (index-halts doc at _ _ _ (table count words links) (rw e at s)))
+      key-refused c r s e = sym (goes-on ∙ stops _ _ _ (key-number-halts doc at _ _ _ (table count words links) (rw e at s)))
 
-      pub key-by-number : (c : Numeral) (n p : ℕ) (z : Outcome Table ℕ) → ReadsNumeral (length doc) (ask (indexAt doc at (indexBy (h .spelled) (h .number)))) c → c ≡ Numeral.Is n p
+      pub key-by-number : (c : Numeral) (n p : ℕ) (z : Outcome Table ℕ) → ReadsNumeral (length doc) (ask (keyNumberAt doc at (keyNumberBy (h .spelled) (h .number)))) c → c ≡ Numeral.Is n p
           → z ≡ numberedIn doc at (h .kind) (numeral n p) (table count words links) → z ≡ keyIn doc at (table count words links)
       key-by-number c n p z s e q =
-          let w : ReadsNumeral (length doc) (ask (indexAt doc at (indexBy (h .spelled) (h .number)))) (Numeral.Is n p) = rw e at s in
-          q ∙ sym (goes-on ∙ then _ _ _ (index-done doc at _ _ (table count words links) (w .0)))
+          let w : ReadsNumeral (length doc) (ask (keyNumberAt doc at (keyNumberBy (h .spelled) (h .number)))) (Numeral.Is n p) = rw e at s in
+          q ∙ sym (goes-on ∙ then _ _ _ (key-number-done doc at _ _ (table count words links) (w .0)))
 
 pub ruleset check-key-laws = (key-past, key-reserved, key-refused, key-by-number, numeral-inside, needs)
 
@@ -138,7 +138,7 @@ unknown doc count at e = absurd (subst T (sym e) tt)
 
 module _ (doc : List ℕ) (count at : ℕ) (i : at < length doc) (h : KeyHead) (hs : h ≡ keyHeadOf (keyFormOf (getD doc at 0))) (k : h .kind ≡ 1) (z : h .spelled ≡ 0) where
   pub known-below : Known doc count at (ltb (h .number) count)
-  unfolding Known indexAt
+  unfolding Known keyNumberAt
   known-below e = (
     i,
     λ words links.

@@ -11,9 +11,9 @@ use Rattle.json.specs.Bytes.{part}
 use Rattle.json.specs.Choose.{choose}
 use Rattle.json.specs.Limits.{mostKeys, deepest}
 use Rattle.json.specs.Reading.{Outcome, halt, done, Reading, Asked, ask, answer, keep, follow, _>>=_, need}
-use Rattle.fractured_json_rules.specs.ByteTables.{Index, inByte, spelled, KeyForm, immediate, backReference, globalIndex, kReserved, keyFormOf}
+use Rattle.fractured_json_rules.specs.ByteTables.{KeyNumber, inByte, spelled, KeyForm, immediate, backReference, globalIndex, kReserved, keyFormOf}
 use Rattle.fractured_json_rules.specs.Meaning.{Key, Keys}
-use Rattle.fractured_json_rules.specs.Verdict.{byteAt, Numeral, indexAt, inTurn, member, value, met, newKey, oldKey, checkKeyBy, checkKey}
+use Rattle.fractured_json_rules.specs.Verdict.{byteAt, Numeral, keyNumberAt, inTurn, member, value, met, newKey, oldKey, checkKeyBy, checkKey}
 use Rattle.fractured_json_rules.specs.KeyTable.{roomOf, pairs, stored, keyOf}
 use Rattle.fractured_json_rules.proofs.KeyTable.{room-words, stored-length}
 use Rattle.fractured_json_rules.proofs.Readers.{kept-is, keep-is}
@@ -25,7 +25,7 @@ use Rattle.fractured_json_keys.proofs.Chained.{Linked, no-links, seen-met, link
 use Rattle.fractured_json_check.specs.Table.{Table, table, freshKeyIn, newKeyIn, oldKeyIn, numberedIn, keyHeadIn, keyIn, out, walkedBy, walked, toldWalk}
 use Rattle.fractured_json_check.specs.declared.walk.Walk.{Walk}
 use Rattle.fractured_json_check.specs.declared.walk.Walk.the-variants.{End, Refused}
-use Rattle.fractured_json_values.proofs.Carried.{carry, carry-need, carry-byte, carry-index, carry-opened}
+use Rattle.fractured_json_values.proofs.Carried.{carry, carry-need, carry-byte, carry-key-number, carry-opened}
 use Rattle.fractured_json_values.proofs.Walks.{onOpened, value-opened}
 
 -- ---- the words that hold the pairs of some keys
@@ -107,7 +107,7 @@ module _ (words doc : List ℕ) where
   alike-by : {A : Type 0} {r x : Outcome Keys A} {q y : Outcome Table A} → r ≡ x → q ≡ y → Alike x y → Alike r q
   alike-by e f h = rw (e, f) h
 
-  -- a test that is the same on both sides, and what is known behind it
+  -- a test that is the same on both sides, and what is known after it
   sim-test : {B : Type 0} (b c : Bool) (n p : ℕ) (f : Unit {0} → Reading Keys B) (g : Unit {0} → Reading Table B) (ks : Keys) (t : Table) → b ≡ c → Tied ks t
       → (T b → Alike (f tt ks) (g tt t)) → Alike ((need b n p >>= f) ks) ((need c n p >>= g) t)
   unfolding _>>=_ follow need
@@ -117,8 +117,8 @@ module _ (words doc : List ℕ) where
   sim-byte : (o p : ℕ) → Sim (byteAt doc o p) (byteAt doc o p)
   sim-byte o p ks t r = rw (carry-byte doc o p ks, carry-byte doc o p t) (sim-carry (ask (byteAt doc o p)) ks t r)
 
-  sim-index : (o : ℕ) (x : Index) → Sim (indexAt doc o x) (indexAt doc o x)
-  sim-index o x ks t r = rw (carry-index doc o x ks, carry-index doc o x t) (sim-carry (ask (indexAt doc o x)) ks t r)
+  sim-key-number : (o : ℕ) (x : KeyNumber) → Sim (keyNumberAt doc o x) (keyNumberAt doc o x)
+  sim-key-number o x ks t r = rw (carry-key-number doc o x ks, carry-key-number doc o x t) (sim-carry (ask (keyNumberAt doc o x)) ks t r)
 
   sim-opened : (o : ℕ) → Sim (openedAt doc o) (openedAt doc o)
   sim-opened o ks t r = rw (carry-opened doc o ks, carry-opened doc o t) (sim-carry (ask (openedAt doc o)) ks t r)
@@ -188,12 +188,12 @@ module _ (words doc : List ℕ) where
 
   sim-by : (o : ℕ) (f : KeyForm) → Sim (checkKeyBy (roomOf words) doc o f) (keyHeadIn doc o (keyHeadOf f))
   unfolding checkKeyBy keyHeadIn numberedIn choose
-  sim-by o (immediate (inByte k)) = sim-then _ _ _ _ (sim-index o (inByte k)) (λ n. sim-new o n)
-  sim-by o (immediate spelled) = sim-then _ _ _ _ (sim-index o spelled) (λ n. sim-new o n)
-  sim-by o (backReference (inByte k)) = sim-then _ _ _ _ (sim-index o (inByte k)) (λ n. sim-old o n)
-  sim-by o (backReference spelled) = sim-then _ _ _ _ (sim-index o spelled) (λ n. sim-old o n)
-  sim-by o (globalIndex (inByte k)) = sim-then _ _ _ _ (sim-index o (inByte k)) (λ n ks t r. (refl, refl, r))
-  sim-by o (globalIndex spelled) = sim-then _ _ _ _ (sim-index o spelled) (λ n ks t r. (refl, refl, r))
+  sim-by o (immediate (inByte k)) = sim-then _ _ _ _ (sim-key-number o (inByte k)) (λ n. sim-new o n)
+  sim-by o (immediate spelled) = sim-then _ _ _ _ (sim-key-number o spelled) (λ n. sim-new o n)
+  sim-by o (backReference (inByte k)) = sim-then _ _ _ _ (sim-key-number o (inByte k)) (λ n. sim-old o n)
+  sim-by o (backReference spelled) = sim-then _ _ _ _ (sim-key-number o spelled) (λ n. sim-old o n)
+  sim-by o (globalIndex (inByte k)) = sim-then _ _ _ _ (sim-key-number o (inByte k)) (λ n ks t r. (refl, refl, r))
+  sim-by o (globalIndex spelled) = sim-then _ _ _ _ (sim-key-number o spelled) (λ n ks t r. (refl, refl, r))
   sim-by o kReserved = λ ks t r. (refl, refl, r)
 
   sim-key : (o : ℕ) → Sim (checkKey (roomOf words) doc o) (keyIn doc o)

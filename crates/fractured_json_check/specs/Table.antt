@@ -11,9 +11,9 @@ use Rattle.json.specs.Limits.{deepest}
 use Rattle.json.specs.Reading.{Outcome, halt, done, Reading, Asked, answers, refuses, answer, refuse, kept, keep, _>>=_, _>>_, need}
 use Rattle.fractured_json_rules.specs.ByteTables.{keyFormOf}
 use Rattle.fractured_json_rules.specs.Meaning.{Keys}
-use Rattle.fractured_json_rules.specs.Verdict.{byteAt, Numeral, indexAt, value, checkKey}
+use Rattle.fractured_json_rules.specs.Verdict.{byteAt, Numeral, keyNumberAt, value, checkKey}
 use Rattle.fractured_json_rules.specs.KeyTable.{roomOf, stored}
-use Rattle.fractured_json_values.specs.Heads.{keyHeadOf, indexBy}
+use Rattle.fractured_json_values.specs.Heads.{keyHeadOf, keyNumberBy}
 use Rattle.fractured_json_values.specs.declared.types.KeyHead.{KeyHead}
 use Rattle.fractured_json_keys.specs.Passed.{withPair}
 use Rattle.fractured_json_keys.specs.Chains.{bucketsIn, bucketOf, seenIn, linkedIn}
@@ -57,14 +57,14 @@ unfoldable pub numberedIn : List ℕ → ℕ → ℕ → Numeral → Reading Tab
 numberedIn doc o kind n = choose (eqb kind 0) (newKeyIn doc o n) (choose (eqb kind 1) (oldKeyIn o n) (refuse 38 o))
 
 unfoldable pub keyHeadIn : List ℕ → ℕ → KeyHead → Reading Table ℕ
-keyHeadIn doc o h = choose (eqb (h .kind) 3) (refuse 36 o) (indexAt doc o (indexBy (h .spelled) (h .number)) >>= λ n. numberedIn doc o (h .kind) n)
+keyHeadIn doc o h = choose (eqb (h .kind) 3) (refuse 36 o) (keyNumberAt doc o (keyNumberBy (h .spelled) (h .number)) >>= λ n. numberedIn doc o (h .kind) n)
 
 unfoldable pub keyIn : List ℕ → ℕ → Reading Table ℕ
 keyIn doc o = do
   b ← byteAt doc o o
   keyHeadIn doc o (keyHeadOf (keyFormOf b))
 
--- where the value of an entry starts: in an object behind its key
+-- where the value of an entry starts: in an object after its key
 unfoldable pub keyedIn : Bool → List ℕ → ℕ → Reading Table ℕ
 keyedIn true doc o = keyIn doc o
 keyedIn false doc o = answer o

@@ -4,7 +4,7 @@ use fractured_json_keys::chains::bucket_of;
 use fractured_json_keys::chains::link;
 use fractured_json_keys::chains::was_met;
 use fractured_json_keys::pairs::store;
-use fractured_json_values::index::index_at;
+use fractured_json_values::key_number::key_number_at;
 use fractured_json_values::texts::room_of;
 use fractured_json_values::types::key_head;
 use fractured_json_values::values::Numeral;
@@ -82,7 +82,7 @@ fn new_key(
     fresh_key(keys, links, b, count, at, number, past)
 }
 
-// A key by its kind, once its number has been read.
+// A key by its kind, once the number that it carries has been read.
 fn numbered(
     doc: &[u8],
     keys: &mut [u32],
@@ -151,7 +151,7 @@ pub(crate) fn check_key(
             },
         };
     }
-    let n = index_at(doc, at, h.spelled, h.number);
+    let n = key_number_at(doc, at, h.spelled, h.number);
     match n {
         Numeral::Refused(refusal) => Walk::Refused { count, refusal },
         Numeral::Is { number, past } => numbered(doc, keys, links, count, at, kind, number, past),

@@ -15,11 +15,11 @@ use Rattle.json.specs.Reading.{Reading, Asked, ask, answers, refuses, _>>=_, ne
 use Rattle.json.specs.declared.Refusal.{Refusal}
 use Rattle.json.proofs.Reading.{then, stops, pass, fail}
 use Rattle.fractured_json_rules.specs.ByteTables.{inByte, spelled, KeyForm, immediate, backReference, globalIndex, kReserved, keyFormOf}
-use Rattle.fractured_json_rules.specs.Verdict.{numeral, indexAt}
+use Rattle.fractured_json_rules.specs.Verdict.{numeral, keyNumberAt}
 use Rattle.fractured_json_rules.specs.KeyTable.{roomOf}
 use Rattle.fractured_json_rules.specs.Questions.{KeyRead, textKey, backKey, readKeyBy, readKey}
 use Rattle.fractured_json_rules.proofs.Readers.{byte-is}
-use Rattle.fractured_json_values.specs.Heads.{keyHeadOf, indexBy}
+use Rattle.fractured_json_values.specs.Heads.{keyHeadOf, keyNumberBy}
 use Rattle.fractured_json_values.specs.Opened.{ReadsNumeral}
 use Rattle.fractured_json_containers.specs.Asked.{numberedKey, headKey}
 use Rattle.fractured_json_values.specs.declared.types.KeyHead.{KeyHead}
@@ -118,18 +118,18 @@ module _ (doc words : List ℕ) (count at : ℕ) where
     key-reserved e = sym (begins ∙ rw e)
 
     module _ (f : h .kind ≡ 3 → ⊥) where
-      goes-on : ask (readKey doc words count at) ≡ (indexAt doc at (indexBy (h .spelled) (h .number)) >>= λ n. numberedKey doc words count at (h .kind) n) tt
+      goes-on : ask (readKey doc words count at) ≡ (keyNumberAt doc at (keyNumberBy (h .spelled) (h .number)) >>= λ n. numberedKey doc words count at (h .kind) n) tt
       unfolding headKey choose
       goes-on = begins ∙ rw (ne-eqb (h .kind) 3 f)
 
-      pub key-refused : (c : Numeral) (r : Refusal) → ReadsNumeral (length doc) (ask (indexAt doc at (indexBy (h .spelled) (h .number)))) c → c ≡ Numeral.Refused r
+      pub key-refused : (c : Numeral) (r : Refusal) → ReadsNumeral (length doc) (ask (keyNumberAt doc at (keyNumberBy (h .spelled) (h .number)))) c → c ≡ Numeral.Refused r
           → refuses (r .number) (r .place) ≡ ask (readKey doc words count at)
       key-refused c r s e = sym (goes-on ∙ stops _ _ tt (rw e at s))
 
-      pub key-by-number : (c : Numeral) (n p : ℕ) (z : Asked KeyRead) → ReadsNumeral (length doc) (ask (indexAt doc at (indexBy (h .spelled) (h .number)))) c → c ≡ Numeral.Is n p
+      pub key-by-number : (c : Numeral) (n p : ℕ) (z : Asked KeyRead) → ReadsNumeral (length doc) (ask (keyNumberAt doc at (keyNumberBy (h .spelled) (h .number)))) c → c ≡ Numeral.Is n p
           → z ≡ ask (numberedKey doc words count at (h .kind) (numeral n p)) → z ≡ ask (readKey doc words count at)
       key-by-number c n p z s e q =
-          let w : ReadsNumeral (length doc) (ask (indexAt doc at (indexBy (h .spelled) (h .number)))) (Numeral.Is n p) = rw e at s in
+          let w : ReadsNumeral (length doc) (ask (keyNumberAt doc at (keyNumberBy (h .spelled) (h .number)))) (Numeral.Is n p) = rw e at s in
           q ∙ sym (goes-on ∙ then _ _ tt (w .0))
 
 pub ruleset read-key-laws = (key-past, key-reserved, key-refused, key-by-number, numeral-inside, needs)

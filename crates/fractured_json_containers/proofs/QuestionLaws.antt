@@ -20,7 +20,7 @@ use Rattle.fractured_json_answers.specs.Told.{toldPlace}
 use Rattle.fractured_json_answers.specs.declared.Place.{Place}
 use Rattle.fractured_json_values.specs.declared.values.Numeral.{Numeral}
 use Rattle.fractured_json_containers.specs.declared.skip.KeyText.{KeyText}
-use Rattle.fractured_json_scalars.proofs.Entering.{behind-length, length-refused, length-read}
+use Rattle.fractured_json_scalars.proofs.Entering.{after-length, length-refused, length-read}
 use Rattle.fractured_json_containers.proofs.AskedWalk.{passes-key, stops-at-key}
 use Rattle.fractured_json_containers.proofs.Forms.{array-form, object-form}
 
@@ -50,15 +50,15 @@ module _ (doc words : List ℕ) (count at i : ℕ) where
   element-walked n first r h e = e ∙ sym (pass _ _ _ _ tt (lt→ltb _ _ h))
 
   module _ (c : Numeral) (cs : ReadsNumeral (length doc) (ask (wantedAt doc at 10)) c) where
-    element-behind : ask (elementAt doc words count at i) ≡ ask (wantedAt doc at 10 >>= λ n. elementFrom doc words count at i (n .is) (n .past))
+    element-after : ask (elementAt doc words count at i) ≡ ask (wantedAt doc at 10 >>= λ n. elementFrom doc words count at i (n .is) (n .past))
     unfolding elementAt
-    element-behind = behind-length doc at 10 (arrayBy doc at (λ n p. elementFrom doc words count at i n p)) (λ n. elementFrom doc words count at i (n .is) (n .past)) (array-form doc at (λ n p. elementFrom doc words count at i n p))
+    element-after = after-length doc at 10 (arrayBy doc at (λ n p. elementFrom doc words count at i n p)) (λ n. elementFrom doc words count at i (n .is) (n .past)) (array-form doc at (λ n p. elementFrom doc words count at i n p))
 
     pub element-refused : (r : Refusal) → c ≡ Numeral.Refused r → refuses (r .number) (r .place) ≡ ask (elementAt doc words count at i)
-    element-refused r q = sym (element-behind ∙ length-refused doc at 10 _ c cs r q)
+    element-refused r q = sym (element-after ∙ length-refused doc at 10 _ c cs r q)
 
     pub element-read : (n p : ℕ) (r : Asked ℕ) → c ≡ Numeral.Is n p → r ≡ ask (elementFrom doc words count at i n p) → r ≡ ask (elementAt doc words count at i)
-    element-read n p r q e = e ∙ sym (element-behind ∙ length-read doc at 10 (λ n. elementFrom doc words count at i (n .is) (n .past)) c cs n p q)
+    element-read n p r q e = e ∙ sym (element-after ∙ length-read doc at 10 (λ n. elementFrom doc words count at i (n .is) (n .past)) c cs n p q)
 
 pub ruleset element-from-laws = (element-past, element-walked, needs)
 
@@ -86,15 +86,15 @@ module _ (doc words : List ℕ) (count at j : ℕ) where
       member-found s l p e = sym (pass _ _ _ _ tt (lt→ltb _ _ h) ∙ (then _ _ tt (sym ws ∙ ap toldPlace q) ∙ then _ _ tt (passes-key doc words count o k ks s l p e)))
 
   module _ (c : Numeral) (cs : ReadsNumeral (length doc) (ask (wantedAt doc at 9)) c) where
-    member-behind : ask (memberAt doc words count at j) ≡ ask (wantedAt doc at 9 >>= λ n. memberFrom doc words count at j (n .is) (n .past))
+    member-after : ask (memberAt doc words count at j) ≡ ask (wantedAt doc at 9 >>= λ n. memberFrom doc words count at j (n .is) (n .past))
     unfolding memberAt
-    member-behind = behind-length doc at 9 (objectBy doc at (λ n p. memberFrom doc words count at j n p)) (λ n. memberFrom doc words count at j (n .is) (n .past)) (object-form doc at (λ n p. memberFrom doc words count at j n p))
+    member-after = after-length doc at 9 (objectBy doc at (λ n p. memberFrom doc words count at j n p)) (λ n. memberFrom doc words count at j (n .is) (n .past)) (object-form doc at (λ n p. memberFrom doc words count at j n p))
 
     pub member-refused : (r : Refusal) → c ≡ Numeral.Refused r → refuses (r .number) (r .place) ≡ ask (memberAt doc words count at j)
-    member-refused r q = sym (member-behind ∙ length-refused doc at 9 _ c cs r q)
+    member-refused r q = sym (member-after ∙ length-refused doc at 9 _ c cs r q)
 
     pub member-read : (n p : ℕ) (r : Asked MemberAt) → c ≡ Numeral.Is n p → r ≡ ask (memberFrom doc words count at j n p) → r ≡ ask (memberAt doc words count at j)
-    member-read n p r q e = e ∙ sym (member-behind ∙ length-read doc at 9 (λ n. memberFrom doc words count at j (n .is) (n .past)) c cs n p q)
+    member-read n p r q e = e ∙ sym (member-after ∙ length-read doc at 9 (λ n. memberFrom doc words count at j (n .is) (n .past)) c cs n p q)
 
 pub ruleset member-from-laws = (member-past, members-refused, key-refused, member-found, needs)
 
@@ -103,14 +103,14 @@ pub ruleset member-laws = (member-refused, member-read, needs)
 -- ---- the first member by key
 
 module _ (doc words : List ℕ) (count at : ℕ) (x : List ℕ) (c : Numeral) (cs : ReadsNumeral (length doc) (ask (wantedAt doc at 9)) c) where
-  find-behind : ask (firstMember doc words count at x) ≡ ask (wantedAt doc at 9 >>= λ n. findIn doc words count x (n .is) (n .past))
+  find-after : ask (firstMember doc words count at x) ≡ ask (wantedAt doc at 9 >>= λ n. findIn doc words count x (n .is) (n .past))
   unfolding firstMember
-  find-behind = behind-length doc at 9 (objectBy doc at (λ n p. findIn doc words count x n p)) (λ n. findIn doc words count x (n .is) (n .past)) (object-form doc at (λ n p. findIn doc words count x n p))
+  find-after = after-length doc at 9 (objectBy doc at (λ n p. findIn doc words count x n p)) (λ n. findIn doc words count x (n .is) (n .past)) (object-form doc at (λ n p. findIn doc words count x n p))
 
   pub find-refused : (r : Refusal) → c ≡ Numeral.Refused r → refuses (r .number) (r .place) ≡ ask (firstMember doc words count at x)
-  find-refused r q = sym (find-behind ∙ length-refused doc at 9 _ c cs r q)
+  find-refused r q = sym (find-after ∙ length-refused doc at 9 _ c cs r q)
 
   pub find-read : (n p : ℕ) (r : Asked Found) → c ≡ Numeral.Is n p → r ≡ ask (findIn doc words count x n p) → r ≡ ask (firstMember doc words count at x)
-  find-read n p r q e = e ∙ sym (find-behind ∙ length-read doc at 9 (λ n. findIn doc words count x (n .is) (n .past)) c cs n p q)
+  find-read n p r q e = e ∙ sym (find-after ∙ length-read doc at 9 (λ n. findIn doc words count x (n .is) (n .past)) c cs n p q)
 
 pub ruleset first-member-laws = (find-refused, find-read, needs)

@@ -7,9 +7,9 @@ use lib.Dec.{eqb}
 use Rattle.json.specs.Bytes.{part}
 use Rattle.json.specs.Choose.{choose}
 use Rattle.json.specs.Reading.{Reading, Asked, ask, answers, refuses, refuse, _>>=_}
-use Rattle.fractured_json_rules.specs.Verdict.{Numeral, indexAt}
+use Rattle.fractured_json_rules.specs.Verdict.{Numeral, keyNumberAt}
 use Rattle.fractured_json_rules.specs.Questions.{KeyRead, textKey, backKey, valueAt, absent, findFrom}
-use Rattle.fractured_json_values.specs.Heads.{indexBy}
+use Rattle.fractured_json_values.specs.Heads.{keyNumberBy}
 use Rattle.fractured_json_values.specs.declared.types.KeyHead.{KeyHead}
 use Rattle.fractured_json_containers.specs.declared.skip.KeyText.{KeyText}
 use Rattle.fractured_json_containers.specs.declared.lookup.Look.{Look}
@@ -21,7 +21,7 @@ unfoldable pub numberedKey : {S : Type 0} → List ℕ → List ℕ → ℕ → 
 numberedKey doc words count o kind n = choose (eqb kind 0) (textKey doc o n) (choose (eqb kind 1) (backKey doc words count o n) (refuse 38 o))
 
 unfoldable pub headKey : {S : Type 0} → List ℕ → List ℕ → ℕ → ℕ → KeyHead → Reading S KeyRead
-headKey doc words count o h = choose (eqb (h .kind) 3) (refuse 36 o) (indexAt doc o (indexBy (h .spelled) (h .number)) >>= λ n. numberedKey doc words count o (h .kind) n)
+headKey doc words count o h = choose (eqb (h .kind) 3) (refuse 36 o) (keyNumberAt doc o (keyNumberBy (h .spelled) (h .number)) >>= λ n. numberedKey doc words count o (h .kind) n)
 
 abbrev pub toldKey : List ℕ → KeyText → Asked KeyRead
 toldKey doc (KeyText.At start len past) = answers (record { bytes = part doc start len; past = past })
@@ -29,7 +29,7 @@ toldKey doc (KeyText.Refused r) = refuses (r .number) (r .place)
 
 -- ---- the first member by key
 
--- what is known of the first member with the key x from the member at o on, with so many behind it
+-- what is known of the first member with the key x from the member at o on, with so many after it
 abbrev pub Looks : List ℕ → List ℕ → ℕ → List ℕ → ℕ → ℕ → Look → Type 0
 Looks doc words count x later o (Look.Here p) = ask (findFrom doc words count x later o) ≡ answers (valueAt p)
 Looks doc words count x later o Look.Absent = ask (findFrom doc words count x later o) ≡ answers absent

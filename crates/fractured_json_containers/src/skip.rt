@@ -1,6 +1,6 @@
 // The questions' walk over a value: keys go by a table and count as they are handed in.
 use fractured_json_answers::Place;
-use fractured_json_values::index::index_at;
+use fractured_json_values::key_number::key_number_at;
 use fractured_json_values::texts::room_of;
 use fractured_json_values::texts::word_of;
 use fractured_json_values::types::key_head;
@@ -115,7 +115,7 @@ pub(crate) fn read_key(doc: &[u8], keys: &[u32], count: usize, at: usize) -> Key
             place: at,
         });
     }
-    let n = index_at(doc, at, h.spelled, h.number);
+    let n = key_number_at(doc, at, h.spelled, h.number);
     match n {
         Numeral::Refused(r) => KeyText::Refused(r),
         Numeral::Is { number, past } => numbered_key(doc, keys, count, at, kind, number, past),
@@ -175,7 +175,7 @@ pub(crate) fn skip_entries(
     Place::At(at)
 }
 
-// The end of one entry: a value, in an object behind its key.
+// The end of one entry: a value, in an object after its key.
 fn skip_entry(
     doc: &[u8],
     keys: &[u32],

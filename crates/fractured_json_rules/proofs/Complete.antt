@@ -10,7 +10,7 @@ use Rattle.json.proofs.Reading.{then, pass}
 use Rattle.fractured_json_rules.specs.Meaning.{Keys, KeyIs, asText, asBack}
 use Rattle.fractured_json_rules.specs.Verdict.{newKey, oldKey, checkKeyBy, checkKey}
 use Rattle.fractured_json_rules.proofs.Keys.{fresh-met}
-use Rattle.fractured_json_rules.proofs.Readers.{kept-is, keep-is, byte-is, index-is}
+use Rattle.fractured_json_rules.proofs.Readers.{kept-is, keep-is, byte-is, key-number-is}
 
 module _ (room : ℕ) (doc : List ℕ) where
   pub key-passes : (t : List ℕ) (o : ℕ) (ks : Keys) (e : ℕ) (kz : Keys) → KeyIs doc t o ks e kz → length kz ≤ room → checkKey room doc o ks ≡ done e kz
@@ -19,7 +19,7 @@ module _ (room : ℕ) (doc : List ℕ) where
       let fresh = rw (y .same) at (fresh-met doc t ks f) in
       let spare : length ks < room = omega (arith, rw (q, length-append) at r) in
       rw (p, q)
-      (then _ _ ks (byte-is doc o o ks (s .inside)) ∙ rw (s .form-is) (then _ _ ks (index-is doc o x n b ks i)
+      (then _ _ ks (byte-is doc o o ks (s .inside)) ∙ rw (s .form-is) (then _ _ ks (key-number-is doc o x n b ks i)
       ∙ (pass _ _ _ _ ks (le→leb _ _ (y .inside)) ∙ (kept-is _ ks ∙ (pass _ _ _ _ ks fresh ∙ (pass _ _ _ _ ks (lt→ltb _ _ spare) ∙ keep-is _ _ ks))))))
   key-passes t o ks e kz (asBack x j s i h y q) r =
-      rw q (then _ _ ks (byte-is doc o o ks (s .inside)) ∙ rw (s .form-is) (then _ _ ks (index-is doc o x j e ks i) ∙ (kept-is _ ks ∙ pass _ _ _ _ ks (lt→ltb _ _ h))))
+      rw q (then _ _ ks (byte-is doc o o ks (s .inside)) ∙ rw (s .form-is) (then _ _ ks (key-number-is doc o x j e ks i) ∙ (kept-is _ ks ∙ pass _ _ _ _ ks (lt→ltb _ _ h))))

@@ -13,7 +13,7 @@ use Rattle.json.specs.Reading.{Outcome, halt, done, Asked, ask, answers, refuse
 use Rattle.json.specs.Tree.{Tree, num, str, arr, obj, Trees, Members, size, sizem, depth, ElementIs, MemberIs, Lacks, NoNumber, NoString, NoArray, NoObject, Subtree}
 use Rattle.json.proofs.Reading.{then, pass, fail, need-yes}
 use Rattle.json.proofs.Tree.{element-at, member-at, member-below, subtree-depth}
-use Rattle.fractured_json_rules.specs.Meaning.{noKey, Keys, behindLength, Means}
+use Rattle.fractured_json_rules.specs.Meaning.{noKey, Keys, afterLength, Means}
 use Rattle.fractured_json_rules.specs.Verdict.{checkKey, check, verdict}
 use Rattle.fractured_json_rules.specs.KeyTable.{roomOf, stored, keyOf, checkedBy, checked}
 use Rattle.fractured_json_rules.specs.TreeOf.{keysOf, treeOf, lengthIn, keyEnd}
@@ -134,7 +134,7 @@ module _ (doc : List ℕ) (t : Tree) (m : Means doc t) {o : ℕ} (l : Leads doc 
   below : (u : Tree) → StandsFor doc (m .keys) o u → (3 ≤ o) × Subtree t u
   below u s =
       let n = Nodes.node doc t m l in
-      (n .behind-header, subst (λ (v : Tree). Subtree t v) (node-one doc (m .keys) o (n .tree) u (n .stands) s) (n .below))
+      (n .after-header, subst (λ (v : Tree). Subtree t v) (node-one doc (m .keys) o (n .tree) u (n .stands) s) (n .below))
 
   pub kind-answer : (u : Tree) → StandsFor doc (m .keys) o u → ask (kind doc o) ≡ answers (kindOf u)
   unfolding kind
@@ -285,10 +285,10 @@ module _ (doc : List ℕ) (t : Tree) (m : Means doc t) (words : List ℕ) (roomy
         let d = subtree-depth t sub in
         let n = m .nested in
         let begins = asked doc (m .opens) o _ (obj ms) _ _ _ b (s .value) ∙ object-is doc _ ms o _ _ _ (s .value) in
-        led b sub begins (finds doc (m .keys) _ _ holds x ms (behindLength o (s .value .0)) _ _ _ (s .value .3) (s .first) (omega arith))
+        led b sub begins (finds doc (m .keys) _ _ holds x ms (afterLength o (s .value .0)) _ _ _ (s .value .3) (s .first) (omega arith))
       where
         led : {r q : Asked Found} → 3 ≤ o → Subtree t (obj ms) → r ≡ q
-            → Lookup doc (m .keys) (checked doc words .words) (checked doc words .count) holds x ms (behindLength o (s .value .0)) q → FirstMemberAnswer doc (m .keys) ms x r
+            → Lookup doc (m .keys) (checked doc words .words) (checked doc words .count) holds x ms (afterLength o (s .value .0)) q → FirstMemberAnswer doc (m .keys) ms x r
         led b sub begins (hit j v is earlier e) =
             let y = s .value .0 in
             let form = s .value .1 .form-is in

@@ -10,10 +10,10 @@ use lib.ListN.{length, getD, drop, length-append, length-drop}
 use lib.Seq.{getD-append-add, getD-drop}
 use Rattle.json.specs.Limits.{deepest}
 use Rattle.json.specs.Reading.{Outcome, halt, done, Reading, follow, _>>=_, need}
-use Rattle.fractured_json_rules.specs.ByteTables.{Len, tiny, behind, Form, fNull, fBool, fInt, fFloat, fTiny, fString, fObject, fArray, fReserved, formOf}
-use Rattle.fractured_json_rules.specs.ByteTables.{Index, inByte, spelled, KeyForm, immediate, backReference, globalIndex, kReserved, keyFormOf}
+use Rattle.fractured_json_rules.specs.ByteTables.{Len, tiny, after, Form, fNull, fBool, fInt, fFloat, fTiny, fString, fObject, fArray, fReserved, formOf}
+use Rattle.fractured_json_rules.specs.ByteTables.{KeyNumber, inByte, spelled, KeyForm, immediate, backReference, globalIndex, kReserved, keyFormOf}
 use Rattle.fractured_json_rules.specs.Meaning.{noKey, Keys}
-use Rattle.fractured_json_rules.specs.Verdict.{header, byteAt, payload, lengthAt, Numeral, afterSecond, afterFirst, indexAt, inTurn, member, valueBy}
+use Rattle.fractured_json_rules.specs.Verdict.{header, byteAt, payload, lengthAt, Numeral, afterSecond, afterFirst, keyNumberAt, inTurn, member, valueBy}
 use Rattle.fractured_json_rules.specs.Verdict.{value, newKey, oldKey, checkKeyBy, checkKey, check, verdict}
 use Rattle.fractured_json_rules.specs.KeyTable.{roomOf, pairs, stored, keyOf}
 use Rattle.fractured_json_rules.specs.TreeOf.{keysOf}
@@ -38,7 +38,7 @@ module _ (room : ℕ) where
   keeps-need true n p ks h = h
   keeps-need false n p ks h = h
 
-  -- a test, and what is known behind it
+  -- a test, and what is known after it
   keeps-test : {B : Type 0} (t : Bool) (n p : ℕ) (f : Unit {0} → Reading Keys B) (ks : Keys) → length ks ≤ room → (T t → length (keysOf (f tt ks)) ≤ room)
       → length (keysOf ((need t n p >>= f) ks)) ≤ room
   unfolding _>>=_ follow need
@@ -63,7 +63,7 @@ module _ (room : ℕ) where
     keeps-length : (o : ℕ) (x : Len) → Keeps (lengthAt doc o x)
     unfolding lengthAt
     keeps-length o (tiny n) ks h = h
-    keeps-length o (behind w) ks h = keeps-payload o _ ks h
+    keeps-length o (after w) ks h = keeps-payload o _ ks h
 
     keeps-second : (o b0 b1 : ℕ) (l : Bool) → Keeps (afterSecond doc o b0 b1 l)
     unfolding afterSecond
@@ -75,10 +75,10 @@ module _ (room : ℕ) where
     keeps-first o b0 true ks h = h
     keeps-first o b0 false ks h = keeps-then _ _ (keeps-byte _ _) (λ b1. keeps-second o b0 b1 (ltb b1 128)) ks h
 
-    keeps-index : (o : ℕ) (x : Index) → Keeps (indexAt doc o x)
-    unfolding indexAt
-    keeps-index o (inByte n) ks h = h
-    keeps-index o spelled ks h = keeps-then _ _ (keeps-byte _ _) (λ b0. keeps-first o b0 (ltb b0 128)) ks h
+    keeps-key-number : (o : ℕ) (x : KeyNumber) → Keeps (keyNumberAt doc o x)
+    unfolding keyNumberAt
+    keeps-key-number o (inByte n) ks h = h
+    keeps-key-number o spelled ks h = keeps-then _ _ (keeps-byte _ _) (λ b0. keeps-first o b0 (ltb b0 128)) ks h
 
     -- the one place where a key is added
     keeps-new : (o : ℕ) (n : Numeral) → Keeps (newKey room doc o n)
@@ -93,9 +93,9 @@ module _ (room : ℕ) where
 
     keeps-key-by : (o : ℕ) (k : KeyForm) → Keeps (checkKeyBy room doc o k)
     unfolding checkKeyBy
-    keeps-key-by o (immediate x) ks h = keeps-then _ _ (keeps-index o x) (λ n. keeps-new o n) ks h
-    keeps-key-by o (backReference x) ks h = keeps-then _ _ (keeps-index o x) (λ n. keeps-old o n) ks h
-    keeps-key-by o (globalIndex x) ks h = keeps-then _ _ (keeps-index o x) (λ n kz i. i) ks h
+    keeps-key-by o (immediate x) ks h = keeps-then _ _ (keeps-key-number o x) (λ n. keeps-new o n) ks h
+    keeps-key-by o (backReference x) ks h = keeps-then _ _ (keeps-key-number o x) (λ n. keeps-old o n) ks h
+    keeps-key-by o (globalIndex x) ks h = keeps-then _ _ (keeps-key-number o x) (λ n kz i. i) ks h
     keeps-key-by o kReserved ks h = h
 
     keeps-key : (o : ℕ) → Keeps (checkKey room doc o)

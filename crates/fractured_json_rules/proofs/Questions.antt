@@ -12,7 +12,7 @@ use Rattle.json.specs.Tree.{Tree, null, bool, num, str, arr, obj, Trees, Member
 use Rattle.json.proofs.Bytes.{number-small}
 use Rattle.json.proofs.Reading.{then, pass, need-yes}
 use Rattle.fractured_json_rules.specs.ByteTables.{bytes, formOf}
-use Rattle.fractured_json_rules.specs.Meaning.{behindLength, TextIs, NumberIs, asTiny, asInt, asFloat, Keys, ValueIs, Opens}
+use Rattle.fractured_json_rules.specs.Meaning.{afterLength, TextIs, NumberIs, asTiny, asInt, asFloat, Keys, ValueIs, Opens}
 use Rattle.fractured_json_rules.specs.Verdict.{byteAt}
 use Rattle.fractured_json_rules.specs.Questions.{opening, kindBy, extended, tinyBits, numberBy, stringBy, arrayBy, objectBy}
 use Rattle.fractured_json_rules.specs.Answers.{kindOf, valueBy, valueOf}
@@ -93,7 +93,7 @@ module _ (doc : List ℕ) where
   unfolding stringBy
   string-is t o ks e kz h =
       let len = text-length t _ _ (h .4) in (
-        behindLength o (h .0),
+        afterLength o (h .0),
         rw (h .2 .form-is, len) (then _ _ tt (length-is doc o (h .0) (h .1) tt (h .3)) ∙ pass _ _ _ _ tt (le→leb _ _ (h .4 .inside))),
         rw len (sym (h .4 .same)),
         rw len (sym (h .5)),
@@ -129,11 +129,11 @@ module _ (doc : List ℕ) where
   -- ---- the length of an array and of an object
 
   pub array-is : {A : Type 0} (rest : ℕ → ℕ → Reading (Unit {0}) A) (ts : Trees) (o : ℕ) (ks : Keys) (e : ℕ) (kz : Keys) (v : ValueIs doc (arr ts) o ks e kz)
-      → ask (arrayBy doc o rest (formOf (getD doc o 0))) ≡ ask (rest (size ts) (behindLength o (v .0)))
+      → ask (arrayBy doc o rest (formOf (getD doc o 0))) ≡ ask (rest (size ts) (afterLength o (v .0)))
   unfolding arrayBy
   array-is rest ts o ks e kz v = rw (v .1 .form-is) (then _ _ tt (length-is doc o (v .0) (size ts) tt (v .2)))
 
   pub object-is : {A : Type 0} (rest : ℕ → ℕ → Reading (Unit {0}) A) (ms : Members) (o : ℕ) (ks : Keys) (e : ℕ) (kz : Keys) (v : ValueIs doc (obj ms) o ks e kz)
-      → ask (objectBy doc o rest (formOf (getD doc o 0))) ≡ ask (rest (sizem ms) (behindLength o (v .0)))
+      → ask (objectBy doc o rest (formOf (getD doc o 0))) ≡ ask (rest (sizem ms) (afterLength o (v .0)))
   unfolding objectBy
   object-is rest ms o ks e kz v = rw (v .1 .form-is) (then _ _ tt (length-is doc o (v .0) (sizem ms) tt (v .2)))

@@ -17,11 +17,11 @@ use Rattle.json.specs.Tree as Tree
 use Rattle.json.proofs.Reading.{halt≢done, done-answer, done-kept, step, passed}
 use Rattle.fractured_json_rules.specs.ByteTables.{Width, bytes, Form, fNull, fBool, fInt, fFloat, fTiny, fString, fObject, fArray, fReserved, formOf}
 use Rattle.fractured_json_rules.specs.ByteTables.{KeyForm, immediate, backReference, globalIndex, kReserved, keyFormOf}
-use Rattle.fractured_json_rules.specs.Meaning.{behindLength, intTree, tinyTree, NumberIs, asTiny, asInt, asFloat, noKey, Keys, keyText, KeyIs, asText}
+use Rattle.fractured_json_rules.specs.Meaning.{afterLength, intTree, tinyTree, NumberIs, asTiny, asInt, asFloat, noKey, Keys, keyText, KeyIs, asText}
 use Rattle.fractured_json_rules.specs.Meaning.{asBack, ValueIs, ValuesAre, MembersAre, Opens, Means}
 use Rattle.fractured_json_rules.specs.Verdict.{inTurn, member, valueBy, value, newKey, oldKey, checkKeyBy, checkKey, check, verdict}
 use Rattle.fractured_json_rules.proofs.Keys.{met-fresh}
-use Rattle.fractured_json_rules.proofs.Readers.{kept-is, keep-is, header-step, last-test, byte-step, payload-step, length-step, index-step}
+use Rattle.fractured_json_rules.proofs.Readers.{kept-is, keep-is, header-step, last-test, byte-step, payload-step, length-step, key-number-step}
 
 record FoundKey (doc : List ℕ) (o : ℕ) (ks : Keys) (e : ℕ) (kz : Keys) : Type 0 where
   text : List ℕ
@@ -74,7 +74,7 @@ module _ (room : ℕ) (doc : List ℕ) where
       → FoundKey doc o ks e kz
   unfolding checkKeyBy newKey oldKey
   key-by o ks i (immediate x) form e =
-      let (n, b, ix, e0) = index-step doc o x _ ks e in
+      let (n, b, ix, e0) = key-number-step doc o x _ ks e in
       let s1 = passed _ _ _ _ ks e0 in
       let s2 = passed _ _ _ _ ks (sym (kept-is _ ks) ∙ s1 .rest) in
       let s3 = passed _ _ _ _ ks (s2 .rest) in
@@ -85,14 +85,14 @@ module _ (room : ℕ) (doc : List ℕ) where
             (sym (done-answer last)) (sym (done-kept last));
       }
   key-by o ks i (backReference x) form e =
-      let (n, b, ix, e0) = index-step doc o x _ ks e in
+      let (n, b, ix, e0) = key-number-step doc o x _ ks e in
       let s1 = passed _ _ _ _ ks (sym (kept-is _ ks) ∙ e0) in
       let past = done-answer (s1 .rest) in
       record {
         text = keyText doc (getD ks n noKey);
         here = asBack x n (record { inside = i; form-is = form }) (rw past at ix) (ltb→lt _ _ (s1 .test)) refl (sym (done-kept (s1 .rest)));
       }
-  key-by o ks i (globalIndex x) form e = let (n, b, ix, e0) = index-step doc o x _ ks e in absurd (halt≢done e0)
+  key-by o ks i (globalIndex x) form e = let (n, b, ix, e0) = key-number-step doc o x _ ks e in absurd (halt≢done e0)
   key-by o ks i kReserved form e = absurd (halt≢done e)
 
   key-sound : (o : ℕ) (ks : Keys) {e : ℕ} {kz : Keys} → checkKey room doc o ks ≡ done e kz → FoundKey doc o ks e kz
@@ -155,17 +155,17 @@ module _ (room : ℕ) (doc : List ℕ) where
       let (n, len, e0) = length-step doc o x _ ks e in
       let s = passed _ _ _ _ ks e0 in
       record {
-        tree = str (part doc (behindLength o x) n);
+        tree = str (part doc (afterLength o x) n);
         here = (x, n, record { inside = i; form-is = form }, len, record { inside = leb→le _ _ (s .test); same = refl }, sym (done-answer (s .rest)), sym (done-kept (s .rest)));
         shallow = omega arith;
       }
   value-by l o ks array object ha ho i (fObject x) form e =
       let (n, len, e0) = length-step doc o x _ ks e in
-      let (m, le, f) = ho n (behindLength o x) e0 in
+      let (m, le, f) = ho n (afterLength o x) e0 in
       record { tree = obj (f .members); here = (x, record { inside = i; form-is = form }, rw (f .count) len, f .here); shallow = rw le (omega arith) }
   value-by l o ks array object ha ho i (fArray x) form e =
       let (n, len, e0) = length-step doc o x _ ks e in
-      let (m, le, f) = ha n (behindLength o x) e0 in
+      let (m, le, f) = ha n (afterLength o x) e0 in
       record { tree = arr (f .trees); here = (x, record { inside = i; form-is = form }, rw (f .count) len, f .here); shallow = rw le (omega arith) }
   value-by l o ks array object ha ho i fReserved form e = absurd (halt≢done e)
 

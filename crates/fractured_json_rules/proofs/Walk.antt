@@ -10,7 +10,7 @@ use Rattle.json.specs.Tree.{Tree, null, bool, num, str, arr, obj, Trees, none, 
 use Rattle.json.specs.Tree as Tree
 use Rattle.json.proofs.Reading.{then, pass}
 use Rattle.fractured_json_rules.specs.ByteTables.{bytes, Form, fNull, fBool, fInt, fFloat, fTiny, fString}
-use Rattle.fractured_json_rules.specs.Meaning.{Starts, behindLength, NumberIs, asTiny, asInt, asFloat, Keys, KeyIs, ValueIs, ValuesAre, MembersAre}
+use Rattle.fractured_json_rules.specs.Meaning.{Starts, afterLength, NumberIs, asTiny, asInt, asFloat, Keys, KeyIs, ValueIs, ValuesAre, MembersAre}
 use Rattle.fractured_json_rules.specs.Verdict.{inTurn, member, valueBy, value}
 use Rattle.fractured_json_rules.specs.Leads.{FirstOf}
 use Rattle.fractured_json_rules.proofs.Keys.{first-trans, grows, grows-all, grows-members}
@@ -45,11 +45,11 @@ module _ {S : Type 0} (doc : List ℕ) (key : ℕ → Reading S ℕ) (tab : Keys
       walks (arr ts) zero o ks e kz h g d = absurd (omega arith)
       walks (arr ts) (suc l) o ks e kz h g d =
           then _ _ (at ks) (byte-is doc o o (at ks) (h .1 .inside)) ∙ rw (h .1 .form-is)
-          (then _ _ (at ks) (length-is doc o (h .0) (size ts) (at ks) (h .2)) ∙ walks-all ts l (behindLength o (h .0)) ks e kz (h .3) g (omega arith))
+          (then _ _ (at ks) (length-is doc o (h .0) (size ts) (at ks) (h .2)) ∙ walks-all ts l (afterLength o (h .0)) ks e kz (h .3) g (omega arith))
       walks (obj ms) zero o ks e kz h g d = absurd (omega arith)
       walks (obj ms) (suc l) o ks e kz h g d =
           then _ _ (at ks) (byte-is doc o o (at ks) (h .1 .inside)) ∙ rw (h .1 .form-is)
-          (then _ _ (at ks) (length-is doc o (h .0) (sizem ms) (at ks) (h .2)) ∙ walks-members ms l (behindLength o (h .0)) ks e kz (h .3) g (omega arith))
+          (then _ _ (at ks) (length-is doc o (h .0) (sizem ms) (at ks) (h .2)) ∙ walks-members ms l (afterLength o (h .0)) ks e kz (h .3) g (omega arith))
 
       walks-all : (ts : Trees) (l o : ℕ) (ks : Keys) (e : ℕ) (kz : Keys) → ValuesAre doc ts o ks e kz → FirstOf kz tab → depths ts ≤ l
           → inTurn (value key l doc) (size ts) o (at ks) ≡ done e (at kz)

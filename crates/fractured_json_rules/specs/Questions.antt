@@ -16,7 +16,7 @@ use Rattle.json.specs.Reading.{Reading, answer, refuse, ask, _>>=_, _>>_, need}
 use Rattle.json.specs.Span.{Span, spanned}
 use Rattle.json.specs.Texts.{compareTexts, isEqual}
 use Rattle.fractured_json_rules.specs.ByteTables.{bytes, Form, fNull, fBool, fInt, fFloat, fTiny, fString, fObject, fArray, fReserved, formOf, KeyForm, keyFormOf}
-use Rattle.fractured_json_rules.specs.Meaning.{keyText, behindLength}
+use Rattle.fractured_json_rules.specs.Meaning.{keyText, afterLength}
 use Rattle.fractured_json_rules.specs.Verdict.{header, byteAt, payload, lengthAt, Numeral, inTurn, member, value, keyBy}
 use Rattle.fractured_json_rules.specs.KeyTable.{roomOf, keyOf}
 
@@ -152,8 +152,8 @@ stringBy doc c (fFloat f w) = refuse 21 c
 stringBy doc c (fTiny b) = refuse 21 c
 stringBy doc c (fString x) = do
   n ← lengthAt doc c x
-  need (leb (behindLength c x + n) (length doc)) 35 c
-  answer (record { place = behindLength c x; len = n })
+  need (leb (afterLength c x + n) (length doc)) 35 c
+  answer (record { place = afterLength c x; len = n })
 stringBy doc c (fObject x) = refuse 21 c
 stringBy doc c (fArray x) = refuse 21 c
 stringBy doc c fReserved = refuse 36 c
@@ -181,7 +181,7 @@ arrayBy doc c rest (fString x) = refuse 21 c
 arrayBy doc c rest (fObject x) = refuse 21 c
 arrayBy doc c rest (fArray x) = do
   n ← lengthAt doc c x
-  rest n (behindLength c x)
+  rest n (afterLength c x)
 arrayBy doc c rest fReserved = refuse 36 c
 
 unfoldable pub objectBy : {S A : Type 0} → List ℕ → ℕ → (ℕ → ℕ → Reading S A) → Form → Reading S A
@@ -193,7 +193,7 @@ objectBy doc c rest (fTiny b) = refuse 21 c
 objectBy doc c rest (fString x) = refuse 21 c
 objectBy doc c rest (fObject x) = do
   n ← lengthAt doc c x
-  rest n (behindLength c x)
+  rest n (afterLength c x)
 objectBy doc c rest (fArray x) = refuse 21 c
 objectBy doc c rest fReserved = refuse 36 c
 
@@ -232,7 +232,7 @@ pub data Found : Type 0 where
   valueAt : ℕ → Found
   absent : Found
 
--- from the member at o on, with so many behind it; behind the last key nothing is read
+-- from the member at o on, with so many after it; after the last key nothing is read
 unfoldable pub findFrom : {S : Type 0} → List ℕ → List ℕ → ℕ → List ℕ → ℕ → ℕ → Reading S Found
 findFrom doc words count x zero o = do
   k ← readKey doc words count o

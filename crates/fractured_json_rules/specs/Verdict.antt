@@ -14,8 +14,8 @@ use Rattle.json.specs.Limits.{leastFractured, longest, deepest}
 use Rattle.json.specs.Number.{finite}
 use Rattle.json.specs.Reading.{Outcome, Reading, answer, refuse, kept, keep, _>>=_, _>>_, need}
 use Rattle.json.specs.Texts.{compareTexts, isEqual}
-use Rattle.fractured_json_rules.specs.ByteTables.{bytes, Len, tiny, behind, Form, fNull, fBool, fInt, fFloat, fTiny, fString, fObject, fArray, fReserved, formOf, Index, inByte, spelled, KeyForm, immediate, backReference, globalIndex, kReserved, keyFormOf}
-use Rattle.fractured_json_rules.specs.Meaning.{Keys, keyText, behindLength}
+use Rattle.fractured_json_rules.specs.ByteTables.{bytes, Len, tiny, after, Form, fNull, fBool, fInt, fFloat, fTiny, fString, fObject, fArray, fReserved, formOf, KeyNumber, inByte, spelled, KeyForm, immediate, backReference, globalIndex, kReserved, keyFormOf}
+use Rattle.fractured_json_rules.specs.Meaning.{Keys, keyText, afterLength}
 
 -- ---- 31 to 34
 
@@ -35,7 +35,7 @@ byteAt doc o p = do
   need (ltb o (length doc)) 35 p
   answer (getD doc o 0)
 
--- the number in the w bytes behind the byte at o
+-- the number in the w bytes after the byte at o
 unfoldable pub payload : {S : Type 0} → List ℕ → ℕ → ℕ → Reading S ℕ
 payload doc o w = do
   need (leb (o + 1 + w) (length doc)) 35 o
@@ -43,7 +43,7 @@ payload doc o w = do
 
 unfoldable pub lengthAt : {S : Type 0} → List ℕ → ℕ → Len → Reading S ℕ
 lengthAt doc o (tiny n) = answer n
-lengthAt doc o (behind w) = payload doc o (bytes w)
+lengthAt doc o (after w) = payload doc o (bytes w)
 
 -- ---- 37: v_uint16, byte by byte
 
@@ -55,7 +55,7 @@ pub record Numeral : Type 0 where
 abbrev pub numeral : ℕ → ℕ → Numeral
 numeral n e = record { is = n; past = e }
 
--- behind the byte at o stand b0, b1 and perhaps a third; the last argument says whether b1 is the last
+-- after the byte at o stand b0, b1 and perhaps a third; the last argument says whether b1 is the last
 unfoldable pub afterSecond : {S : Type 0} → List ℕ → ℕ → ℕ → ℕ → Bool → Reading S Numeral
 afterSecond doc o b0 b1 true = answer (numeral (b0 - 128 + 128 * b1) (o + 3))
 afterSecond doc o b0 b1 false = do
@@ -71,9 +71,9 @@ afterFirst doc o b0 false = do
   afterSecond doc o b0 b1 (ltb b1 128)
 
 -- the number that the key byte at o carries
-unfoldable pub indexAt : {S : Type 0} → List ℕ → ℕ → Index → Reading S Numeral
-indexAt doc o (inByte n) = answer (numeral n (o + 1))
-indexAt doc o spelled = do
+unfoldable pub keyNumberAt : {S : Type 0} → List ℕ → ℕ → KeyNumber → Reading S Numeral
+keyNumberAt doc o (inByte n) = answer (numeral n (o + 1))
+keyNumberAt doc o spelled = do
   b0 ← byteAt doc (o + 1) o
   afterFirst doc o b0 (ltb b0 128)
 
@@ -106,14 +106,14 @@ valueBy doc o array object (fFloat f w) = do
   answer (o + 1 + bytes w)
 valueBy doc o array object (fString x) = do
   n ← lengthAt doc o x
-  need (leb (behindLength o x + n) (length doc)) 35 o
-  answer (behindLength o x + n)
+  need (leb (afterLength o x + n) (length doc)) 35 o
+  answer (afterLength o x + n)
 valueBy doc o array object (fObject x) = do
   n ← lengthAt doc o x
-  object n (behindLength o x)
+  object n (afterLength o x)
 valueBy doc o array object (fArray x) = do
   n ← lengthAt doc o x
-  array n (behindLength o x)
+  array n (afterLength o x)
 valueBy doc o array object fReserved = refuse 36 o
 
 -- with so many levels left for containers; `key` answers where the key's value starts
@@ -130,9 +130,9 @@ value key (suc levels) doc o = do
 -- `byLength` goes on with the length of an immediate key's text, `byIndex` with the index of a back reference; no global index
 -- is found yet
 abbrev pub keyBy : {S A : Type 0} → List ℕ → ℕ → (Numeral → Reading S A) → (Numeral → Reading S A) → KeyForm → Reading S A
-keyBy doc o byLength byIndex (immediate x) = indexAt doc o x >>= byLength
-keyBy doc o byLength byIndex (backReference x) = indexAt doc o x >>= byIndex
-keyBy doc o byLength byIndex (globalIndex x) = indexAt doc o x >>= λ _. refuse 38 o
+keyBy doc o byLength byIndex (immediate x) = keyNumberAt doc o x >>= byLength
+keyBy doc o byLength byIndex (backReference x) = keyNumberAt doc o x >>= byIndex
+keyBy doc o byLength byIndex (globalIndex x) = keyNumberAt doc o x >>= λ _. refuse 38 o
 keyBy doc o byLength byIndex kReserved = refuse 36 o
 
 -- ---- 38, 39 and 40: a key as the check reads it, with room for so many keys

@@ -1,4 +1,4 @@
--- What every question reads first, one law for each way through `open_question`, `enter` and `wanted`; and what goes on behind it.
+-- What every question reads first, one law for each way through `open_question`, `enter` and `wanted`; and what goes on after it.
 use mathlib.Core.Path.{_≡_, sym, ap, _∙_}
 use mathlib.Core.List.{List}
 use Prim.Native.Nat.{ℕ, _≤_, _<_}
@@ -74,10 +74,10 @@ module _ {A : Type 0} (doc : List ℕ) (at : ℕ) (f : ℕ → Reading (Unit {0}
   pub enters-read : (b : ℕ) → e ≡ Entered.Type b → ask (entering doc at >>= f) ≡ ask (f b)
   enters-read b q = let w : Enters doc at (Entered.Type b) = rw q at es in then _ _ tt (w .0)
 
--- a question that goes on behind its type byte
-pub asks-behind : {A : Type 0} (doc : List ℕ) (at : ℕ) (f : ℕ → Reading (Unit {0}) A) → ask (opening doc at >>= λ _. byteAt doc at at >>= f) ≡ ask (entering doc at >>= f)
+-- a question that goes on after its type byte
+pub asks-after : {A : Type 0} (doc : List ℕ) (at : ℕ) (f : ℕ → Reading (Unit {0}) A) → ask (opening doc at >>= λ _. byteAt doc at at >>= f) ≡ ask (entering doc at >>= f)
 unfolding entering
-asks-behind doc at f = sym (assoc _ _ f tt)
+asks-after doc at f = sym (assoc _ _ f tt)
 
 -- ---- a length, by the kind that is wanted
 
@@ -108,14 +108,14 @@ module _ (doc : List ℕ) (at want : ℕ) (e : Entered) (es : Enters doc at e) w
 
 pub ruleset wanted-laws = (entered-inside, head-width, wanted-refused, wanted-reserved, wanted-sized, wanted-other, needs)
 
--- ---- what goes on behind a length
+-- ---- what goes on after a length
 
 -- a question of one kind: its rest follows the length
-pub behind-length : {A : Type 0} (doc : List ℕ) (at want : ℕ) (by : Form → Reading (Unit {0}) A) (rest : Rules.Numeral → Reading (Unit {0}) A)
+pub after-length : {A : Type 0} (doc : List ℕ) (at want : ℕ) (by : Form → Reading (Unit {0}) A) (rest : Rules.Numeral → Reading (Unit {0}) A)
     → ((f : Form) (s : Unit {0}) → by f s ≡ (wantedHead doc at want (headOf f) >>= rest) s)
     → ask (opening doc at >>= λ _. byteAt doc at at >>= λ b. by (formOf b)) ≡ ask (wantedAt doc at want >>= rest)
 unfolding wantedAt
-behind-length doc at want by rest h = asks-behind doc at _ ∙ (then-same (entering doc at) _ _ tt (λ b s. h (formOf b) s) ∙ sym (assoc _ _ rest tt))
+after-length doc at want by rest h = asks-after doc at _ ∙ (then-same (entering doc at) _ _ tt (λ b s. h (formOf b) s) ∙ sym (assoc _ _ rest tt))
 
 module _ {A : Type 0} (doc : List ℕ) (at want : ℕ) (rest : Rules.Numeral → Reading (Unit {0}) A) (c : Numeral) (cs : ReadsNumeral (length doc) (ask (wantedAt doc at want)) c) where
   pub length-refused : (r : Refusal) → c ≡ Numeral.Refused r → ask (wantedAt doc at want >>= rest) ≡ refuses (r .number) (r .place)

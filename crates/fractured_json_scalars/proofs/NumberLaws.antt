@@ -117,25 +117,25 @@ pub ruleset number-kind-laws = (signed-asks, tiny-asks, signed-told, tiny-told, 
 
 -- ---- a number at a place
 
--- a signed int has bytes behind it, and a tiny int has none
-signed-behind : (f : Form) → headOf f .kind ≡ 3 → headOf f .width ≡ 0 → ⊥
-signed-behind fNull e z = omega arith
-signed-behind (fBool false) e z = omega arith
-signed-behind (fBool true) e z = omega arith
-signed-behind (fInt true one) e z = omega arith
-signed-behind (fInt true two) e z = omega arith
-signed-behind (fInt true four) e z = omega arith
-signed-behind (fInt true eight) e z = omega arith
-signed-behind (fInt false w) e z = omega arith
-signed-behind (fFloat f one) e z = omega arith
-signed-behind (fFloat f two) e z = omega arith
-signed-behind (fFloat f four) e z = omega arith
-signed-behind (fFloat f eight) e z = omega arith
-signed-behind (fTiny b) e z = omega arith
-signed-behind (fString x) e z = omega arith
-signed-behind (fObject x) e z = omega arith
-signed-behind (fArray x) e z = omega arith
-signed-behind fReserved e z = omega arith
+-- a signed int has bytes after it, and a tiny int has none
+signed-after : (f : Form) → headOf f .kind ≡ 3 → headOf f .width ≡ 0 → ⊥
+signed-after fNull e z = omega arith
+signed-after (fBool false) e z = omega arith
+signed-after (fBool true) e z = omega arith
+signed-after (fInt true one) e z = omega arith
+signed-after (fInt true two) e z = omega arith
+signed-after (fInt true four) e z = omega arith
+signed-after (fInt true eight) e z = omega arith
+signed-after (fInt false w) e z = omega arith
+signed-after (fFloat f one) e z = omega arith
+signed-after (fFloat f two) e z = omega arith
+signed-after (fFloat f four) e z = omega arith
+signed-after (fFloat f eight) e z = omega arith
+signed-after (fTiny b) e z = omega arith
+signed-after (fString x) e z = omega arith
+signed-after (fObject x) e z = omega arith
+signed-after (fArray x) e z = omega arith
+signed-after fReserved e z = omega arith
 
 tiny-inside : (f : Form) → Sound f → headOf f .kind ≡ 5 → (headOf f .width ≡ 0) × (headOf f .tiny < 64)
 tiny-inside fNull h e = absurd (omega arith)
@@ -191,7 +191,7 @@ module _ (doc : List ℕ) (at b : ℕ) (h : Head) (hs : h ≡ headOf (formOf b))
 
   module _ (c : Numeral) (k p : ℕ) (q : c ≡ Numeral.Is k p) where
     pub signed-small : Below (h .width) c → h .kind ≡ 3 → k < 256 ^ h .width
-    signed-small s e = let w : Below (h .width) (Numeral.Is k p) = rw q at s in w (λ z. signed-behind (formOf b) (rw hs at e) (rw hs at z))
+    signed-small s e = let w : Below (h .width) (Numeral.Is k p) = rw q at s in w (λ z. signed-after (formOf b) (rw hs at e) (rw hs at z))
 
     pub tiny-small : ReadsNumeral (length doc) (ask (sizedAt doc at (h .width) (h .tiny))) c → h .kind ≡ 5 → k < 64
     tiny-small s e =

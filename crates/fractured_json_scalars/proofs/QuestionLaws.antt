@@ -18,7 +18,7 @@ use Rattle.fractured_json_answers.specs.Told.{toldText}
 use Rattle.fractured_json_answers.specs.declared.Text.{Text}
 use Rattle.fractured_json_scalars.specs.declared.enter.Entered.{Entered}
 use Rattle.fractured_json_values.specs.declared.values.Numeral.{Numeral}
-use Rattle.fractured_json_scalars.proofs.Entering.{entered-inside, enters-refused, enters-read, asks-behind, behind-length, length-refused, length-read}
+use Rattle.fractured_json_scalars.proofs.Entering.{entered-inside, enters-refused, enters-read, asks-after, after-length, length-refused, length-read}
 use Rattle.fractured_json_scalars.proofs.Forms.{stringRest, string-form}
 use Rattle.fractured_json_values.proofs.Opening.{over, numeral-inside}
 
@@ -27,19 +27,19 @@ use Rattle.fractured_json_values.proofs.Opening.{over, numeral-inside}
 module _ (doc : List ℕ) (at : ℕ) (e : Entered) (es : Enters doc at e) where
   pub kind-refused : (r : Refusal) → e ≡ Entered.Refused r → refuses (r .number) (r .place) ≡ ask (kind doc at)
   unfolding kind
-  kind-refused r q = sym (asks-behind doc at _ ∙ enters-refused doc at _ e es r q)
+  kind-refused r q = sym (asks-after doc at _ ∙ enters-refused doc at _ e es r q)
 
   pub kind-read : (b : ℕ) (r : Asked Kind) → e ≡ Entered.Type b → r ≡ ask (kindBy doc at (formOf b)) → r ≡ ask (kind doc at)
   unfolding kind
-  kind-read b r q h = h ∙ sym (asks-behind doc at _ ∙ enters-read doc at (λ x. kindBy doc at (formOf x)) e es b q)
+  kind-read b r q h = h ∙ sym (asks-after doc at _ ∙ enters-read doc at (λ x. kindBy doc at (formOf x)) e es b q)
 
   pub number-refused : (r : Refusal) → e ≡ Entered.Refused r → refuses (r .number) (r .place) ≡ ask (numberAt doc at)
   unfolding numberAt
-  number-refused r q = sym (asks-behind doc at _ ∙ enters-refused doc at _ e es r q)
+  number-refused r q = sym (asks-after doc at _ ∙ enters-refused doc at _ e es r q)
 
   pub number-read : (b : ℕ) (r : Asked Bits) → e ≡ Entered.Type b → r ≡ ask (numberBy doc at b (formOf b)) → r ≡ ask (numberAt doc at)
   unfolding numberAt
-  number-read b r q h = h ∙ sym (asks-behind doc at _ ∙ enters-read doc at (λ x. numberBy doc at x (formOf x)) e es b q)
+  number-read b r q h = h ∙ sym (asks-after doc at _ ∙ enters-read doc at (λ x. numberBy doc at x (formOf x)) e es b q)
 
 pub ruleset kind-laws = (entered-inside, kind-refused, kind-read, needs)
 
@@ -48,16 +48,16 @@ pub ruleset number-laws = (entered-inside, number-refused, number-read, needs)
 -- ---- its string
 
 module _ (doc : List ℕ) (at : ℕ) (c : Numeral) (cs : ReadsNumeral (length doc) (ask (wantedAt doc at 8)) c) where
-  string-behind : ask (stringAt doc at) ≡ ask (wantedAt doc at 8 >>= λ n. stringRest doc at (n .is) (n .past))
+  string-after : ask (stringAt doc at) ≡ ask (wantedAt doc at 8 >>= λ n. stringRest doc at (n .is) (n .past))
   unfolding stringAt
-  string-behind = behind-length doc at 8 (stringBy doc at) (λ n. stringRest doc at (n .is) (n .past)) (string-form doc at)
+  string-after = after-length doc at 8 (stringBy doc at) (λ n. stringRest doc at (n .is) (n .past)) (string-form doc at)
 
   pub string-refused : (r : Refusal) → c ≡ Numeral.Refused r → refuses (r .number) (r .place) ≡ ask (stringAt doc at)
-  string-refused r q = sym (string-behind ∙ length-refused doc at 8 _ c cs r q)
+  string-refused r q = sym (string-after ∙ length-refused doc at 8 _ c cs r q)
 
   module _ (n p : ℕ) (q : c ≡ Numeral.Is n p) where
     text-by : ask (stringAt doc at) ≡ ask (stringRest doc at n p)
-    text-by = string-behind ∙ length-read doc at 8 (λ n. stringRest doc at (n .is) (n .past)) c cs n p q
+    text-by = string-after ∙ length-read doc at 8 (λ n. stringRest doc at (n .is) (n .past)) c cs n p q
 
     pub text-outside : length doc - p < n → refuses 35 at ≡ ask (stringAt doc at)
     text-outside h =

@@ -1,4 +1,4 @@
--- The number of a key, one law for each way through `index_at`, `spelled_at` and `after_first`.
+-- The number that a key byte carries, one law for each way through `key_number_at`, `spelled_at` and `after_first`.
 use mathlib.Core.Path.{_≡_, refl, ap, _∙_}
 use mathlib.Core.Bool.{false}
 use mathlib.Core.List.{List}
@@ -11,10 +11,10 @@ use lib.ListN.{length, getD}
 use Rattle.json.specs.Reading.{ask, answers, refuses}
 use Rattle.json.proofs.Reading.{then, stops, pass, fail}
 use Rattle.fractured_json_rules.specs.ByteTables.{spelled}
-use Rattle.fractured_json_rules.specs.Verdict.{byteAt, numeral, afterSecond, afterFirst, indexAt}
+use Rattle.fractured_json_rules.specs.Verdict.{byteAt, numeral, afterSecond, afterFirst, keyNumberAt}
 use Rattle.fractured_json_rules.proofs.Readers.{byte-is}
 use Rattle.fractured_json_values.specs.Opened.{ReadsNumeral}
-use Rattle.fractured_json_values.specs.Heads.{indexBy}
+use Rattle.fractured_json_values.specs.Heads.{keyNumberBy}
 use Rattle.fractured_json_values.specs.declared.values.Numeral.{Numeral}
 use Rattle.fractured_json_values.proofs.Opening.{over}
 
@@ -25,20 +25,20 @@ byte-past doc o p h = fail _ _ _ _ tt (λ t. let l = ltb→lt o (length doc) t i
 module _ (doc : List ℕ) (at : ℕ) where
   -- ---- the first byte
 
-  pub first-short : at < length doc → length doc - at ≤ 1 → ask (indexAt doc at spelled) ≡ refuses 35 at
-  unfolding indexAt
+  pub first-short : at < length doc → length doc - at ≤ 1 → ask (keyNumberAt doc at spelled) ≡ refuses 35 at
+  unfolding keyNumberAt
   first-short i h = stops _ _ tt (byte-past doc (at + 1) at (omega arith))
 
   module _ (b0 : ℕ) (i : at < length doc) (h : 1 < length doc - at) (e : b0 ≡ getD doc (at + 1) 0) where
-    first : ask (indexAt doc at spelled) ≡ ask (afterFirst doc at b0 (ltb b0 128))
-    unfolding indexAt
+    first : ask (keyNumberAt doc at spelled) ≡ ask (afterFirst doc at b0 (ltb b0 128))
+    unfolding keyNumberAt
     first = then _ _ tt (byte-is doc (at + 1) at tt (omega arith)) ∙ rw e
 
-    pub first-last : b0 < 128 → ask (indexAt doc at spelled) ≡ answers (numeral b0 (at + 2))
+    pub first-last : b0 < 128 → ask (keyNumberAt doc at spelled) ≡ answers (numeral b0 (at + 2))
     unfolding afterFirst
     first-last l = first ∙ rw (lt-ltb b0 128 l)
 
-    pub first-more : (c : Numeral) → 128 ≤ b0 → ReadsNumeral (length doc) (ask (afterFirst doc at b0 false)) c → ReadsNumeral (length doc) (ask (indexAt doc at spelled)) c
+    pub first-more : (c : Numeral) → 128 ≤ b0 → ReadsNumeral (length doc) (ask (afterFirst doc at b0 false)) c → ReadsNumeral (length doc) (ask (keyNumberAt doc at spelled)) c
     first-more c l s = rw (first ∙ ap (λ b. ask (afterFirst doc at b0 b)) (le-ltb b0 128 l)) s
 
   -- ---- the second and the third
@@ -74,18 +74,18 @@ module _ (doc : List ℕ) (at : ℕ) where
           unfolding afterSecond
           third-last l = second-more ∙ (then _ _ tt (byte-is doc (at + 3) at tt (omega arith)) ∙ rw (← f) (pass _ _ _ _ tt (le→leb _ _ l)))
 
-  -- ---- in the key byte, or behind it
+  -- ---- in the key byte, or after it
 
-  pub index-in-byte : (s n : ℕ) → s ≡ 0 → ask (indexAt doc at (indexBy s n)) ≡ answers (numeral n (at + 1))
-  unfolding indexAt
-  index-in-byte s n e = rw e
+  pub key-number-in-byte : (s n : ℕ) → s ≡ 0 → ask (keyNumberAt doc at (keyNumberBy s n)) ≡ answers (numeral n (at + 1))
+  unfolding keyNumberAt
+  key-number-in-byte s n e = rw e
 
-  pub index-spelled : (s n : ℕ) (c : Numeral) → (s ≡ 0 → ⊥) → ReadsNumeral (length doc) (ask (indexAt doc at spelled)) c → ReadsNumeral (length doc) (ask (indexAt doc at (indexBy s n))) c
-  index-spelled zero n c f h = absurd (f refl)
-  index-spelled (suc s) n c f h = h
+  pub key-number-spelled : (s n : ℕ) (c : Numeral) → (s ≡ 0 → ⊥) → ReadsNumeral (length doc) (ask (keyNumberAt doc at spelled)) c → ReadsNumeral (length doc) (ask (keyNumberAt doc at (keyNumberBy s n))) c
+  key-number-spelled zero n c f h = absurd (f refl)
+  key-number-spelled (suc s) n c f h = h
 
 pub ruleset first-laws = (first-short, first-last, first-more, needs)
 
 pub ruleset later-laws = (second-short, second-last, third-short, third-wide, third-last, needs)
 
-pub ruleset index-laws = (index-in-byte, index-spelled, needs)
+pub ruleset key-number-laws = (key-number-in-byte, key-number-spelled, needs)

@@ -17,7 +17,7 @@ use Rattle.json.specs.Number.{finite}
 use Rattle.json.specs.Reading.{Outcome, ask, answers, refuses, _>>=_}
 use Rattle.json.proofs.Bytes.{number-small}
 use Rattle.json.proofs.Reading.{then, stops, pass, fail}
-use Rattle.fractured_json_rules.specs.ByteTables.{one, two, four, eight, tiny, behind, Form, fNull, fBool, fInt, fFloat, fTiny, fString, fObject, fArray, fReserved, formOf}
+use Rattle.fractured_json_rules.specs.ByteTables.{one, two, four, eight, tiny, after, Form, fNull, fBool, fInt, fFloat, fTiny, fString, fObject, fArray, fReserved, formOf}
 use Rattle.fractured_json_rules.specs.Verdict.{byteAt, payload, numeral}
 use Rattle.fractured_json_rules.specs.Verdict as Rules
 use Rattle.fractured_json_rules.proofs.Readers.{byte-is, payload-is}
@@ -61,20 +61,20 @@ width-small (fFloat f two) = omega arith
 width-small (fFloat f four) = omega arith
 width-small (fFloat f eight) = omega arith
 width-small (fString (tiny n)) = omega arith
-width-small (fString (behind one)) = omega arith
-width-small (fString (behind two)) = omega arith
-width-small (fString (behind four)) = omega arith
-width-small (fString (behind eight)) = omega arith
+width-small (fString (after one)) = omega arith
+width-small (fString (after two)) = omega arith
+width-small (fString (after four)) = omega arith
+width-small (fString (after eight)) = omega arith
 width-small (fObject (tiny n)) = omega arith
-width-small (fObject (behind one)) = omega arith
-width-small (fObject (behind two)) = omega arith
-width-small (fObject (behind four)) = omega arith
-width-small (fObject (behind eight)) = omega arith
+width-small (fObject (after one)) = omega arith
+width-small (fObject (after two)) = omega arith
+width-small (fObject (after four)) = omega arith
+width-small (fObject (after eight)) = omega arith
 width-small (fArray (tiny n)) = omega arith
-width-small (fArray (behind one)) = omega arith
-width-small (fArray (behind two)) = omega arith
-width-small (fArray (behind four)) = omega arith
-width-small (fArray (behind eight)) = omega arith
+width-small (fArray (after one)) = omega arith
+width-small (fArray (after two)) = omega arith
+width-small (fArray (after four)) = omega arith
+width-small (fArray (after eight)) = omega arith
 width-small fReserved = omega arith
 
 pub head-width : (h : Head) (f : Form) → h ≡ headOf f → h .width ≤ 8
@@ -180,7 +180,7 @@ module _ (doc : List ℕ) (at kind : ℕ) (f : FloatInside doc at kind) (short :
 
 pub ruleset finite-at-laws = (binary32-at, binary64-at, no-float-at, high-32, high-64, place-32, place-64, needs)
 
--- ---- a length behind its byte
+-- ---- a length after its byte
 
 module _ (doc : List ℕ) (at width n : ℕ) where
   pub one-byte : width ≡ 1 → n ≡ number doc (at + 1) 1 → n ≡ number doc (at + 1) width
@@ -266,7 +266,7 @@ pub ruleset scalar-laws = (float-inside, number-finite, number-infinite, needs)
 
 -- ---- a value at a place
 
--- a float has the width of its format, and a length behind its byte one, two or four bytes
+-- a float has the width of its format, and a length after its byte one, two or four bytes
 abbrev Widths : ℕ → ℕ → Type 0
 Widths kind width = FloatWidth kind width × (8 ≤ kind → (width ≡ 0 → ⊥) → LengthWidth width)
 

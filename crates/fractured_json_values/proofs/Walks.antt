@@ -11,8 +11,8 @@ use Rattle.json.specs.Choose.{choose}
 use Rattle.json.specs.Number.{Float, binary32, binary64, finite}
 use Rattle.json.specs.Reading.{Outcome, halt, done, Reading, ask, answers, refuses, answer, follow, _>>=_, need}
 use Rattle.json.proofs.Reading.{then, stops, assoc}
-use Rattle.fractured_json_rules.specs.ByteTables.{Width, one, two, four, eight, bytes, Len, tiny, behind, Form, fNull, fBool, fInt, fFloat, fTiny, fString, fObject, fArray, fReserved, formOf}
-use Rattle.fractured_json_rules.specs.Meaning.{behindLength}
+use Rattle.fractured_json_rules.specs.ByteTables.{Width, one, two, four, eight, bytes, Len, tiny, after, Form, fNull, fBool, fInt, fFloat, fTiny, fString, fObject, fArray, fReserved, formOf}
+use Rattle.fractured_json_rules.specs.Meaning.{afterLength}
 use Rattle.fractured_json_rules.specs.Verdict.{byteAt, payload, lengthAt, Numeral, numeral, inTurn, member, valueBy, value}
 use Rattle.fractured_json_values.specs.Heads.{widthIn, tinyIn, headOf}
 use Rattle.fractured_json_values.specs.Opened.{sizedAt, Opened, leaf, inside, finiteKind, openKind, openHead, openedAt, entry}
@@ -72,10 +72,10 @@ module _ {S : Type 0} where
     payload-sized eight f s = sym (assoc (payload doc o 8) (λ n. answer (numeral n (o + 1 + 8))) (λ n. f (n .is) (n .past)) s)
 
     pub length-sized : (x : Len) (f : ℕ → ℕ → Reading S A) (s : S)
-        → (lengthAt doc o x >>= λ n. f n (behindLength o x)) s ≡ (sizedAt doc o (widthIn x) (tinyIn x) >>= λ n. f (n .is) (n .past)) s
+        → (lengthAt doc o x >>= λ n. f n (afterLength o x)) s ≡ (sizedAt doc o (widthIn x) (tinyIn x) >>= λ n. f (n .is) (n .past)) s
     unfolding lengthAt sizedAt choose _>>=_ follow
     length-sized (tiny n) f s = refl
-    length-sized (behind w) f s = payload-sized w f s
+    length-sized (after w) f s = payload-sized w f s
 
   -- ---- a value by its form
 

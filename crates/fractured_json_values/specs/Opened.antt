@@ -20,7 +20,7 @@ use Rattle.fractured_json_values.specs.declared.values.Numeral.the-varia
 use Rattle.fractured_json_values.specs.declared.values.Open.{Open}
 use Rattle.fractured_json_values.specs.declared.values.Open.the-variants.{Leaf, Container, Refused as Stopped}
 
--- a length or payload of the value at o, and where that ends: in the type byte (width 0), or in the bytes behind it
+-- a length or payload of the value at o, and where that ends: in the type byte (width 0), or in the bytes after it
 unfoldable pub sizedAt : {S : Type 0} → List ℕ → ℕ → ℕ → ℕ → Reading S Rules.Numeral
 sizedAt doc o width tiny = choose (eqb width 0) (answer (numeral tiny (o + 1))) (payload doc o width >>= λ n. answer (numeral n (o + 1 + width)))
 
@@ -45,7 +45,7 @@ FloatInside doc o kind = (kind ≡ 6 → o + 4 < length doc) × (kind ≡ 7 → 
 unfoldable pub FloatWidth : ℕ → ℕ → Type 0
 FloatWidth kind width = (kind ≡ 6 → width ≡ 4) × (kind ≡ 7 → width ≡ 8)
 
--- a length behind its byte takes one, two or four bytes
+-- a length after its byte takes one, two or four bytes
 unfoldable pub LengthWidth : ℕ → Type 0
 LengthWidth width = (width ≡ 1 → ⊥) → (width ≡ 2 → ⊥) → width ≡ 4
 

@@ -17,7 +17,7 @@ pub enum Numeral {
     Refused(Refusal),
 }
 
-// The length or payload of the value at a place: in its type byte, or in the bytes behind it.
+// The length or payload of the value at a place: in its type byte, or in the bytes after it.
 pub fn sized(doc: &[u8], at: usize, width: usize, tiny: usize) -> Numeral
     requires { ⌜ (width ≤ 8) × (at < length (now doc)) ⌝ }
     ensures { λ r. ⌜ ReadsNumeral (length (now (doc .entry))) (ask (sizedAt (now (doc .entry)) at width tiny)) r × Below width r ⌝ }
@@ -124,7 +124,7 @@ fn finite_at(doc: &[u8], at: usize, kind: u8) -> bool
     true
 }
 
-// The length in the bytes behind the byte at a place.
+// The length in the bytes after the byte at a place.
 fn length_at(doc: &[u8], at: usize, width: usize) -> usize
     requires { ⌜ LengthWidth width × (width < length (now doc) - at) ⌝ }
     ensures { λ r. ⌜ r ≡ number (now (doc .entry)) (at + 1) width ⌝ }

@@ -1,4 +1,4 @@
-// The number of a key: in its key byte, or as a v_uint16 behind it.
+// The number that a key byte carries, in itself or as a v_uint16 after it.
 use crate::values::Numeral;
 use json::Refusal;
 ghost use mathlib.Core.Path.{_≡_};
@@ -7,9 +7,9 @@ ghost use Prim.Native.Nat.{_+_, _≤_, _<_};
 ghost use lib.ListN.{length, getD};
 ghost use Rattle.json.specs.Reading.{ask};
 ghost use Rattle.fractured_json_rules.specs.ByteTables.{spelled};
-ghost use Rattle.fractured_json_rules.specs.Verdict.{afterFirst, indexAt};
+ghost use Rattle.fractured_json_rules.specs.Verdict.{afterFirst, keyNumberAt};
 ghost use Rattle.fractured_json_values.specs.Opened.{ReadsNumeral};
-ghost use Rattle.fractured_json_values.specs.Heads.{indexBy};
+ghost use Rattle.fractured_json_values.specs.Heads.{keyNumberBy};
 
 // The byte at a place, as a number to count with.
 fn byte(doc: &[u8], at: usize) -> usize
@@ -19,7 +19,7 @@ fn byte(doc: &[u8], at: usize) -> usize
     doc[at] as usize
 }
 
-// The v_uint16 behind the byte at a place, whose first byte says that another follows.
+// The v_uint16 after the byte at a place, whose first byte says that another follows.
 fn after_first(doc: &[u8], at: usize, b0: usize) -> Numeral
     requires { ⌜ (at + 1 < length (now doc)) × (128 ≤ b0) × (b0 < 256) ⌝ }
     ensures { λ r. ⌜ ReadsNumeral (length (now (doc .entry))) (ask (afterFirst (now (doc .entry)) at b0 false)) r ⌝ }
@@ -56,10 +56,10 @@ fn after_first(doc: &[u8], at: usize, b0: usize) -> Numeral
     }
 }
 
-// The v_uint16 behind the byte at a place.
+// The v_uint16 after the byte at a place.
 fn spelled_at(doc: &[u8], at: usize) -> Numeral
     requires { ⌜ at < length (now doc) ⌝ }
-    ensures { λ r. ⌜ ReadsNumeral (length (now (doc .entry))) (ask (indexAt (now (doc .entry)) at spelled)) r ⌝ }
+    ensures { λ r. ⌜ ReadsNumeral (length (now (doc .entry))) (ask (keyNumberAt (now (doc .entry)) at spelled)) r ⌝ }
 {
     if doc.len() - at <= 1 {
         return Numeral::Refused(Refusal {
@@ -77,10 +77,10 @@ fn spelled_at(doc: &[u8], at: usize) -> Numeral
     after_first(doc, at, b0)
 }
 
-// The number of the key at a place: in its key byte, or spelled behind it.
-pub fn index_at(doc: &[u8], at: usize, spells: u8, number: usize) -> Numeral
+// The number that the key byte at a place carries.
+pub fn key_number_at(doc: &[u8], at: usize, spells: u8, number: usize) -> Numeral
     requires { ⌜ at < length (now doc) ⌝ }
-    ensures { λ r. ⌜ ReadsNumeral (length (now (doc .entry))) (ask (indexAt (now (doc .entry)) at (indexBy spells number))) r ⌝ }
+    ensures { λ r. ⌜ ReadsNumeral (length (now (doc .entry))) (ask (keyNumberAt (now (doc .entry)) at (keyNumberBy spells number))) r ⌝ }
 {
     if spells == 0 {
         return Numeral::Is {
