@@ -3,18 +3,15 @@
 use Prim.Native.Nat.{ℕ, _+_}
 use mathlib.Core.Bool.{Bool, true, false, not}
 use mathlib.Core.List.{List, []}
-use lib.Dec.{ltb, leb, eqb}
+use lib.Dec.{ltb}
 use lib.ListN.{length}
 use Rattle.json.specs.Bytes.{part}
-use Rattle.json.specs.Choose.{choose}
 use Rattle.json.specs.Limits.{deepest}
-use Rattle.json.specs.Reading.{Outcome, halt, done, Reading, Asked, answers, refuses, answer, refuse, kept, keep, _>>=_, _>>_, need}
+use Rattle.json.specs.Reading.{Outcome, halt, done, Reading, Asked, answers, refuses, answer, kept, keep, _>>=_, _>>_, need}
 use Rattle.fractured_json_rules.specs.ByteTables.{keyFormOf}
 use Rattle.fractured_json_rules.specs.Meaning.{Keys}
-use Rattle.fractured_json_rules.specs.Verdict.{byteAt, Numeral, keyNumberAt, value, checkKey}
+use Rattle.fractured_json_rules.specs.Verdict.{byteAt, textAt, Numeral, value, keyBy, checkKey}
 use Rattle.fractured_json_rules.specs.KeyTable.{roomOf, stored}
-use Rattle.fractured_json_values.specs.Heads.{keyHeadOf, keyNumberBy}
-use Rattle.fractured_json_values.specs.declared.types.KeyHead.{KeyHead}
 use Rattle.fractured_json_keys.specs.Passed.{withPair}
 use Rattle.fractured_json_keys.specs.Chains.{bucketsIn, bucketOf, seenIn, linkedIn}
 use Rattle.fractured_json_check.specs.declared.walk.Walk.{Walk}
@@ -41,7 +38,7 @@ freshKeyIn b o n = do
 
 unfoldable pub newKeyIn : List ℕ → ℕ → Numeral → Reading Table ℕ
 newKeyIn doc o n = do
-  need (leb (n .past + n .is) (length doc)) 35 o
+  _ ← textAt doc o n
   t ← kept
   need (not (seenIn doc (part doc (n .past) (n .is)) (t .words) (t .links) (t .count))) 39 o
   freshKeyIn (bucketOf (part doc (n .past) (n .is)) (bucketsIn (t .links))) o n
@@ -52,17 +49,10 @@ oldKeyIn o n = do
   need (ltb (n .is) (t .count)) 38 o
   answer (n .past)
 
--- a key by its kind, once its number has been read
-unfoldable pub numberedIn : List ℕ → ℕ → ℕ → Numeral → Reading Table ℕ
-numberedIn doc o kind n = choose (eqb kind 0) (newKeyIn doc o n) (choose (eqb kind 1) (oldKeyIn o n) (refuse 38 o))
-
-unfoldable pub keyHeadIn : List ℕ → ℕ → KeyHead → Reading Table ℕ
-keyHeadIn doc o h = choose (eqb (h .kind) 3) (refuse 36 o) (keyNumberAt doc o (keyNumberBy (h .spelled) (h .number)) >>= λ n. numberedIn doc o (h .kind) n)
-
 unfoldable pub keyIn : List ℕ → ℕ → Reading Table ℕ
 keyIn doc o = do
   b ← byteAt doc o o
-  keyHeadIn doc o (keyHeadOf (keyFormOf b))
+  keyBy doc o (newKeyIn doc o) (oldKeyIn o) (keyFormOf b)
 
 -- where the value of an entry starts: in an object after its key
 unfoldable pub keyedIn : Bool → List ℕ → ℕ → Reading Table ℕ

@@ -13,9 +13,10 @@ ghost use Prim.Native.Nat.{_≤_};
 ghost use lib.ListN.{length};
 ghost use Rattle.json.specs.Reading.{ask};
 ghost use Rattle.fractured_json_rules.specs.Verdict.{numeral, inTurn, value};
-ghost use Rattle.fractured_json_rules.specs.Questions.{backKey, readKey, passKey};
+ghost use Rattle.fractured_json_rules.specs.Questions.{textKey, backKey, readKey, passKey};
+ghost use Rattle.fractured_json_values.specs.Heads.{numberedBy};
 ghost use Rattle.fractured_json_values.specs.Opened.{entry};
-ghost use Rattle.fractured_json_containers.specs.Asked.{numberedKey, toldKey};
+ghost use Rattle.fractured_json_containers.specs.Asked.{toldKey};
 ghost use Rattle.fractured_json_answers.specs.Told.{toldPlace};
 
 // A key: where its text stands, how long that is, and where the key ends.
@@ -73,7 +74,7 @@ fn numbered_key(
     past: usize,
 ) -> KeyText
     requires { ⌜ past ≤ length (now doc) ⌝ }
-    ensures { λ r. ⌜ toldKey (now (doc .entry)) r ≡ ask (numberedKey (now (doc .entry)) (now (keys .entry)) count at kind (numeral number past)) ⌝ }
+    ensures { λ r. ⌜ toldKey (now (doc .entry)) r ≡ ask (numberedBy at (textKey (now (doc .entry)) at) (backKey (now (doc .entry)) (now (keys .entry)) count at) kind (numeral number past)) ⌝ }
 {
     if kind == 0 {
         if doc.len() - past < number {

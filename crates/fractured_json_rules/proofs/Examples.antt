@@ -14,11 +14,11 @@ use Rattle.json.specs.Reading.{halt, done, follow, _>>=_, need, Asked, ask, ans
 use Rattle.json.specs.Texts.{byNumbers, compareTexts}
 use Rattle.json.proofs.Reading.{stops, pass, fail}
 use Rattle.fractured_json_rules.specs.ByteTables.{formOf, keyFormOf}
-use Rattle.fractured_json_rules.specs.Verdict.{header, byteAt, payload, lengthAt, afterSecond, afterFirst, keyNumberAt, inTurn, member, valueBy, value, met}
-use Rattle.fractured_json_rules.specs.Verdict.{newKey, oldKey, checkKeyBy, checkKey, check, verdict}
+use Rattle.fractured_json_rules.specs.Verdict.{header, byteAt, payload, lengthAt, textAt, afterSecond, afterFirst, keyNumberAt, inTurn, member, valueBy, value, met}
+use Rattle.fractured_json_rules.specs.Verdict.{keyBy, newKey, oldKey, checkKey, check, verdict}
 use Rattle.fractured_json_rules.specs.KeyTable.{roomOf, stored, Checked, checked}
-use Rattle.fractured_json_rules.specs.Questions.{opening, textKey, backKey, readKeyBy, readKey, passKey, endOf, Kind, isNull, isFalse, isTrue, isNumber}
-use Rattle.fractured_json_rules.specs.Questions.{isString, isObject, isArray, kindBy, kind, numberBy, stringBy, stringBytes, arrayBy, objectBy}
+use Rattle.fractured_json_rules.specs.Questions.{opening, typeAt, textKey, backKey, readKey, passKey, endOf, Kind, isNull, isFalse, isTrue, isNumber}
+use Rattle.fractured_json_rules.specs.Questions.{isString, isObject, isArray, kindBy, kind, numberBy, wantedBy, wantedAt, stringBytes}
 use Rattle.fractured_json_rules.specs.Questions.{elementFrom, memberFrom, Found, valueAt, findFrom, findIn, firstMember}
 use Rattle.fractured_json_rules.specs.Questions as Questions
 
@@ -107,8 +107,8 @@ examples =
     []
 
 pub check-says : map (λ e. checked (e .doc) (e .lent)) examples ≡ map (λ e. e .says) examples
-unfolding follow _>>=_ need choose number finite byNumbers compareTexts formOf keyFormOf header byteAt payload lengthAt afterSecond afterFirst keyNumberAt
-    inTurn member valueBy value met newKey oldKey checkKeyBy checkKey check roomOf stored
+unfolding follow _>>=_ need choose number finite byNumbers compareTexts formOf keyFormOf header byteAt payload lengthAt textAt afterSecond afterFirst keyNumberAt
+    inTurn member valueBy value keyBy met newKey oldKey checkKey check roomOf stored
 check-says = refl
 
 -- 32: over 65,536 bytes
@@ -270,7 +270,7 @@ lines =
     []
 
 pub questions-say : map (λ l. put (l .doc) (l .table) (l .count) (l .question)) lines ≡ map (λ l. l .says) lines
-unfolding follow _>>=_ need choose number finite byNumbers compareTexts formOf keyFormOf header byteAt payload lengthAt afterSecond afterFirst keyNumberAt
-    inTurn member valueBy value roomOf opening textKey backKey readKeyBy readKey passKey endOf kindBy kind numberBy Questions.numberAt stringBy
-    Questions.stringAt arrayBy objectBy elementFrom Questions.elementAt memberFrom Questions.memberAt findFrom findIn firstMember
+unfolding follow _>>=_ need choose number finite byNumbers compareTexts formOf keyFormOf header byteAt payload lengthAt textAt afterSecond afterFirst keyNumberAt
+    inTurn member valueBy value keyBy roomOf opening typeAt textKey backKey readKey passKey endOf kindBy kind numberBy Questions.numberAt wantedBy wantedAt
+    Questions.stringAt elementFrom Questions.elementAt memberFrom Questions.memberAt findFrom findIn firstMember
 questions-say = refl

@@ -1,4 +1,4 @@
--- The readers of bytes, payloads, lengths and key numbers, for whatever a reading keeps: where a chain that begins with one
+-- The readers of bytes, payloads, lengths, texts and key numbers, for whatever a reading keeps: where a chain that begins with one
 -- is done, the document holds what the meaning asks for; and where it does, the reader answers it and keeps what it kept.
 use Prim.Native.Nat.{ℕ, _+_, _≤_, _<_}
 use mathlib.Core.Bool.{Bool, true, false, not}
@@ -12,9 +12,9 @@ use Rattle.json.specs.Bytes.{number}
 use Rattle.json.specs.Reading.{Reading, done, answer, kept, keep, _>>=_, follow, need}
 use Rattle.json.proofs.Reading.{halt≢done, done-kept, passed, then, pass, need-yes, assoc}
 use Rattle.fractured_json_rules.specs.ByteTables.{bytes, Len, tiny, after, KeyNumber, inByte, spelled}
-use Rattle.fractured_json_rules.specs.Meaning.{LengthIs, Spelled, oneByte, twoBytes, threeBytes, KeyNumberIs}
+use Rattle.fractured_json_rules.specs.Meaning.{LengthIs, afterLength, Spelled, oneByte, twoBytes, threeBytes, KeyNumberIs}
 pub use Rattle.fractured_json_rules.specs.Meaning.{Opens}
-use Rattle.fractured_json_rules.specs.Verdict.{header, byteAt, payload, lengthAt, Numeral, numeral, afterSecond, afterFirst, keyNumberAt}
+use Rattle.fractured_json_rules.specs.Verdict.{header, byteAt, payload, lengthAt, textAt, Numeral, numeral, afterSecond, afterFirst, keyNumberAt}
 
 -- ---- what is kept, read and replaced at the head of a chain
 
@@ -65,16 +65,21 @@ module _ {S B : Type 0} (doc : List ℕ) where
   unfolding byteAt
   byte-step o p f s e = let r = tested (ltb o (length doc)) _ _ (getD doc o 0) f s e in (ltb→lt _ _ (r .0), r .1)
 
-  pub payload-step : (o w : ℕ) (f : ℕ → Reading S B) (s : S) {b : B} {z : S} → (payload doc o w >>= f) s ≡ done b z
-      → (o + 1 + w ≤ length doc) × (f (number doc (o + 1) w) s ≡ done b z)
+  pub payload-step : (o w : ℕ) (f : Numeral → Reading S B) (s : S) {b : B} {z : S} → (payload doc o w >>= f) s ≡ done b z
+      → (o + 1 + w ≤ length doc) × (f (numeral (number doc (o + 1) w) (o + 1 + w)) s ≡ done b z)
   unfolding payload
-  payload-step o w f s e = let r = tested (leb (o + 1 + w) (length doc)) _ _ (number doc (o + 1) w) f s e in (leb→le _ _ (r .0), r .1)
+  payload-step o w f s e = let r = tested (leb (o + 1 + w) (length doc)) _ _ _ f s e in (leb→le _ _ (r .0), r .1)
 
-  pub length-step : (o : ℕ) (x : Len) (f : ℕ → Reading S B) (s : S) {b : B} {z : S} → (lengthAt doc o x >>= f) s ≡ done b z
-      → (n : ℕ) × LengthIs doc o x n × (f n s ≡ done b z)
+  pub length-step : (o : ℕ) (x : Len) (f : Numeral → Reading S B) (s : S) {b : B} {z : S} → (lengthAt doc o x >>= f) s ≡ done b z
+      → (n : ℕ) × LengthIs doc o x n × (f (numeral n (afterLength o x)) s ≡ done b z)
   unfolding lengthAt
-  length-step o (tiny n) f s e = (n, refl, answered n f s e)
+  length-step o (tiny n) f s e = (n, refl, answered _ f s e)
   length-step o (after w) f s e = let r = payload-step o (bytes w) f s e in (number doc (o + 1) (bytes w), (r .0, refl), r .1)
+
+  pub text-step : (o : ℕ) (n : Numeral) (f : ℕ → Reading S B) (s : S) {b : B} {z : S} → (textAt doc o n >>= f) s ≡ done b z
+      → (n .past + n .is ≤ length doc) × (f (n .past + n .is) s ≡ done b z)
+  unfolding textAt
+  text-step o n f s e = let r = tested (leb (n .past + n .is) (length doc)) _ _ _ f s e in (leb→le _ _ (r .0), r .1)
 
   second-step : (o : ℕ) (l : Bool) → (T l → getD doc (o + 2) 0 < 128) → (T (not l) → 128 ≤ getD doc (o + 2) 0) → o + 2 < length doc → 128 ≤ getD doc (o + 1) 0
       → (f : Numeral → Reading S B) (s : S) {b : B} {z : S} → (afterSecond doc o (getD doc (o + 1) 0) (getD doc (o + 2) 0) l >>= f) s ≡ done b z
@@ -116,14 +121,18 @@ module _ {S : Type 0} (doc : List ℕ) where
   unfolding byteAt
   byte-is o p s h = pass _ _ _ _ s (lt→ltb _ _ h)
 
-  pub payload-is : (o w : ℕ) (s : S) → o + 1 + w ≤ length doc → payload doc o w s ≡ done (number doc (o + 1) w) s
+  pub payload-is : (o w : ℕ) (s : S) → o + 1 + w ≤ length doc → payload doc o w s ≡ done (numeral (number doc (o + 1) w) (o + 1 + w)) s
   unfolding payload
   payload-is o w s h = pass _ _ _ _ s (le→leb _ _ h)
 
-  pub length-is : (o : ℕ) (x : Len) (n : ℕ) (s : S) → LengthIs doc o x n → lengthAt doc o x s ≡ done n s
+  pub length-is : (o : ℕ) (x : Len) (n : ℕ) (s : S) → LengthIs doc o x n → lengthAt doc o x s ≡ done (numeral n (afterLength o x)) s
   unfolding lengthAt
   length-is o (tiny k) n s h = rw h
   length-is o (after w) n s h = rw (h .1) (payload-is o (bytes w) s (h .0))
+
+  pub text-is : (o : ℕ) (n : Numeral) (s : S) → n .past + n .is ≤ length doc → textAt doc o n s ≡ done (n .past + n .is) s
+  unfolding textAt
+  text-is o n s h = pass _ _ _ _ s (le→leb _ _ h)
 
   spelled-is : (o n e : ℕ) (s : S) → Spelled doc o n e → keyNumberAt doc o spelled s ≡ done (numeral n e) s
   unfolding keyNumberAt afterFirst afterSecond

@@ -15,7 +15,7 @@ use Rattle.json.specs.Number.{finite}
 use Rattle.json.specs.Reading.{Outcome, Reading, answer, refuse, kept, keep, _>>=_, _>>_, need}
 use Rattle.json.specs.Texts.{compareTexts, isEqual}
 use Rattle.fractured_json_rules.specs.ByteTables.{bytes, Len, tiny, after, Form, fNull, fBool, fInt, fFloat, fTiny, fString, fObject, fArray, fReserved, formOf, KeyNumber, inByte, spelled, KeyForm, immediate, backReference, globalIndex, kReserved, keyFormOf}
-use Rattle.fractured_json_rules.specs.Meaning.{Keys, keyText, afterLength}
+use Rattle.fractured_json_rules.specs.Meaning.{Keys, keyText}
 
 -- ---- 31 to 34
 
@@ -29,24 +29,6 @@ header doc = do
 
 -- ---- 35: bytes of a value or key run out, at its first byte
 
--- the byte at o, of what starts at p
-unfoldable pub byteAt : {S : Type 0} → List ℕ → ℕ → ℕ → Reading S ℕ
-byteAt doc o p = do
-  need (ltb o (length doc)) 35 p
-  answer (getD doc o 0)
-
--- the number in the w bytes after the byte at o
-unfoldable pub payload : {S : Type 0} → List ℕ → ℕ → ℕ → Reading S ℕ
-payload doc o w = do
-  need (leb (o + 1 + w) (length doc)) 35 o
-  answer (number doc (o + 1) w)
-
-unfoldable pub lengthAt : {S : Type 0} → List ℕ → ℕ → Len → Reading S ℕ
-lengthAt doc o (tiny n) = answer n
-lengthAt doc o (after w) = payload doc o (bytes w)
-
--- ---- 37: v_uint16, byte by byte
-
 -- a number, and where it ends
 pub record Numeral : Type 0 where
   pub is : ℕ
@@ -54,6 +36,31 @@ pub record Numeral : Type 0 where
 
 abbrev pub numeral : ℕ → ℕ → Numeral
 numeral n e = record { is = n; past = e }
+
+-- the byte at o, of what starts at p
+unfoldable pub byteAt : {S : Type 0} → List ℕ → ℕ → ℕ → Reading S ℕ
+byteAt doc o p = do
+  need (ltb o (length doc)) 35 p
+  answer (getD doc o 0)
+
+-- the number in the w bytes after the byte at o
+unfoldable pub payload : {S : Type 0} → List ℕ → ℕ → ℕ → Reading S Numeral
+payload doc o w = do
+  need (leb (o + 1 + w) (length doc)) 35 o
+  answer (numeral (number doc (o + 1) w) (o + 1 + w))
+
+-- the length at the type byte at o
+unfoldable pub lengthAt : {S : Type 0} → List ℕ → ℕ → Len → Reading S Numeral
+lengthAt doc o (tiny n) = answer (numeral n (o + 1))
+lengthAt doc o (after w) = payload doc o (bytes w)
+
+-- a text of n .is bytes from n .past on, of what starts at o: the answer is where it ends
+unfoldable pub textAt : {S : Type 0} → List ℕ → ℕ → Numeral → Reading S ℕ
+textAt doc o n = do
+  need (leb (n .past + n .is) (length doc)) 35 o
+  answer (n .past + n .is)
+
+-- ---- 37: v_uint16, byte by byte
 
 -- after the byte at o stand b0, b1 and perhaps a third; the last argument says whether b1 is the last
 unfoldable pub afterSecond : {S : Type 0} → List ℕ → ℕ → ℕ → ℕ → Bool → Reading S Numeral
@@ -92,44 +99,37 @@ member key value o = do
   v ← key o
   value v
 
--- the value at o, by its form; `array` and `object` read n things from an offset on
-unfoldable pub valueBy : {S : Type 0} → List ℕ → ℕ → (ℕ → ℕ → Reading S ℕ) → (ℕ → ℕ → Reading S ℕ) → Form → Reading S ℕ
+-- the value at o, by its form; `array` and `object` go on with a length
+unfoldable pub valueBy : {S : Type 0} → List ℕ → ℕ → (Numeral → Reading S ℕ) → (Numeral → Reading S ℕ) → Form → Reading S ℕ
 valueBy doc o array object fNull = answer (o + 1)
 valueBy doc o array object (fBool b) = answer (o + 1)
 valueBy doc o array object (fTiny b) = answer (o + 1)
 valueBy doc o array object (fInt s w) = do
-  _ ← payload doc o (bytes w)
-  answer (o + 1 + bytes w)
+  n ← payload doc o (bytes w)
+  answer (n .past)
 valueBy doc o array object (fFloat f w) = do
-  bits ← payload doc o (bytes w)
-  need (finite f bits) 43 o
-  answer (o + 1 + bytes w)
-valueBy doc o array object (fString x) = do
-  n ← lengthAt doc o x
-  need (leb (afterLength o x + n) (length doc)) 35 o
-  answer (afterLength o x + n)
-valueBy doc o array object (fObject x) = do
-  n ← lengthAt doc o x
-  object n (afterLength o x)
-valueBy doc o array object (fArray x) = do
-  n ← lengthAt doc o x
-  array n (afterLength o x)
+  n ← payload doc o (bytes w)
+  need (finite f (n .is)) 43 o
+  answer (n .past)
+valueBy doc o array object (fString x) = lengthAt doc o x >>= textAt doc o
+valueBy doc o array object (fObject x) = lengthAt doc o x >>= object
+valueBy doc o array object (fArray x) = lengthAt doc o x >>= array
 valueBy doc o array object fReserved = refuse 36 o
 
 -- with so many levels left for containers; `key` answers where the key's value starts
 unfoldable pub value : {S : Type 0} → (ℕ → Reading S ℕ) → ℕ → List ℕ → ℕ → Reading S ℕ
 value key zero doc o = do
   b ← byteAt doc o o
-  valueBy doc o (λ n at. refuse 41 o) (λ n at. refuse 41 o) (formOf b)
+  valueBy doc o (λ n. refuse 41 o) (λ n. refuse 41 o) (formOf b)
 value key (suc levels) doc o = do
   b ← byteAt doc o o
-  valueBy doc o (λ n at. inTurn (value key levels doc) n at) (λ n at. inTurn (member key (value key levels doc)) n at) (formOf b)
+  valueBy doc o (λ n. inTurn (value key levels doc) (n .is) (n .past)) (λ n. inTurn (member key (value key levels doc)) (n .is) (n .past)) (formOf b)
 
 -- ---- 36 and 38: a key by its form
 
 -- `byLength` goes on with the length of an immediate key's text, `byIndex` with the index of a back reference; no global index
 -- is found yet
-abbrev pub keyBy : {S A : Type 0} → List ℕ → ℕ → (Numeral → Reading S A) → (Numeral → Reading S A) → KeyForm → Reading S A
+unfoldable pub keyBy : {S A : Type 0} → List ℕ → ℕ → (Numeral → Reading S A) → (Numeral → Reading S A) → KeyForm → Reading S A
 keyBy doc o byLength byIndex (immediate x) = keyNumberAt doc o x >>= byLength
 keyBy doc o byLength byIndex (backReference x) = keyNumberAt doc o x >>= byIndex
 keyBy doc o byLength byIndex (globalIndex x) = keyNumberAt doc o x >>= λ _. refuse 38 o
@@ -145,12 +145,12 @@ met doc t (k ∷ ks) = choose (isEqual (compareTexts (keyText doc k) t)) true (m
 -- an immediate key at o, whose text is n .is bytes from n .past on; passed, it has its number before its value is read
 unfoldable pub newKey : ℕ → List ℕ → ℕ → Numeral → Reading Keys ℕ
 newKey room doc o n = do
-  need (leb (n .past + n .is) (length doc)) 35 o
+  end ← textAt doc o n
   ks ← kept
   need (not (met doc (part doc (n .past) (n .is)) ks)) 39 o
   need (ltb (length ks) room) 40 o
   keep (ks ++ (record { start = n .past; len = n .is } ∷ []))
-  answer (n .past + n .is)
+  answer end
 
 unfoldable pub oldKey : ℕ → Numeral → Reading Keys ℕ
 oldKey o n = do
@@ -158,13 +158,10 @@ oldKey o n = do
   need (ltb (n .is) (length ks)) 38 o
   answer (n .past)
 
-unfoldable pub checkKeyBy : ℕ → List ℕ → ℕ → KeyForm → Reading Keys ℕ
-checkKeyBy room doc o form = keyBy doc o (newKey room doc o) (oldKey o) form
-
 unfoldable pub checkKey : ℕ → List ℕ → ℕ → Reading Keys ℕ
 checkKey room doc o = do
   b ← byteAt doc o o
-  checkKeyBy room doc o (keyFormOf b)
+  keyBy doc o (newKey room doc o) (oldKey o) (keyFormOf b)
 
 -- ---- the whole check
 

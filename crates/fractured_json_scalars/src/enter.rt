@@ -10,7 +10,7 @@ ghost use lib.ListN.{length};
 ghost use Rattle.json.specs.Reading.{ask, told};
 ghost use Rattle.fractured_json_rules.specs.Questions.{opening};
 ghost use Rattle.fractured_json_values.specs.Opened.{ReadsNumeral};
-ghost use Rattle.fractured_json_scalars.specs.Asked.{Enters, wantedAt};
+ghost use Rattle.fractured_json_scalars.specs.Asked.{Enters, wantedIn};
 
 // 31 to 34, then 20 for a cursor under 3.
 pub fn open_question(doc: &[u8], at: usize) -> Verdict
@@ -57,7 +57,7 @@ pub(crate) fn enter(doc: &[u8], at: usize) -> Entered
 
 // The length of the string, object or array at the cursor, by the kind that is wanted; 21 of any other kind.
 pub fn wanted(doc: &[u8], at: usize, want: u8) -> Numeral
-    ensures { λ r. ⌜ ReadsNumeral (length (now (doc .entry))) (ask (wantedAt (now (doc .entry)) at want)) r ⌝ }
+    ensures { λ r. ⌜ ReadsNumeral (length (now (doc .entry))) (ask (wantedIn (now (doc .entry)) at want)) r ⌝ }
 {
     let e = enter(doc, at);
     match e {

@@ -73,7 +73,7 @@ module _ {S : Type 0} where
 
     carry-sized : (o w t : ℕ) (s : S) → sizedAt doc o w t s ≡ carry s (ask (sizedAt doc o w t))
     unfolding sizedAt
-    carry-sized o w t s = carry-choose (eqb w 0) _ _ _ _ s refl (carry-then _ _ _ _ s (carry-payload _ _ s) (λ n. refl))
+    carry-sized o w t s = carry-choose (eqb w 0) _ _ _ _ s refl (carry-payload _ _ s)
 
     carry-kind : (len o kind n past : ℕ) (s : S) → openKind len o kind n past s ≡ carry s (ask (openKind len o kind n past))
     unfolding openKind

@@ -8,26 +8,31 @@ use borrow.Author.Needs.{needs}
 use borrow.Author.Tests.{lt-ltb, le-ltb}
 use lib.Dec.{ltb, le→leb, ltb→lt}
 use lib.ListN.{length, getD}
-use Rattle.json.specs.Reading.{ask, answers, refuses}
+use Rattle.json.specs.Reading.{halt, ask, answers, refuses}
 use Rattle.json.proofs.Reading.{then, stops, pass, fail}
 use Rattle.fractured_json_rules.specs.ByteTables.{spelled}
-use Rattle.fractured_json_rules.specs.Verdict.{byteAt, numeral, afterSecond, afterFirst, keyNumberAt}
+use Rattle.fractured_json_rules.specs.Verdict.{byteAt, textAt, numeral, afterSecond, afterFirst, keyNumberAt}
+use Rattle.fractured_json_rules.specs.Verdict as Rules
 use Rattle.fractured_json_rules.proofs.Readers.{byte-is}
 use Rattle.fractured_json_values.specs.Opened.{ReadsNumeral}
 use Rattle.fractured_json_values.specs.Heads.{keyNumberBy}
 use Rattle.fractured_json_values.specs.declared.values.Numeral.{Numeral}
 use Rattle.fractured_json_values.proofs.Opening.{over}
 
-pub byte-past : (doc : List ℕ) (o p : ℕ) → length doc ≤ o → ask (byteAt doc o p) ≡ refuses 35 p
+pub byte-past : {S : Type 0} (doc : List ℕ) (o p : ℕ) (s : S) → length doc ≤ o → byteAt doc o p s ≡ halt 35 p s
 unfolding byteAt
-byte-past doc o p h = fail _ _ _ _ tt (λ t. let l = ltb→lt o (length doc) t in omega arith)
+byte-past doc o p s h = fail _ _ _ _ s (λ t. let l = ltb→lt o (length doc) t in omega arith)
+
+pub text-past : {S : Type 0} (doc : List ℕ) (o : ℕ) (n : Rules.Numeral) (s : S) → length doc < n .past + n .is → textAt doc o n s ≡ halt 35 o s
+unfolding textAt
+text-past doc o n s h = fail _ _ _ _ s (over h)
 
 module _ (doc : List ℕ) (at : ℕ) where
   -- ---- the first byte
 
   pub first-short : at < length doc → length doc - at ≤ 1 → ask (keyNumberAt doc at spelled) ≡ refuses 35 at
   unfolding keyNumberAt
-  first-short i h = stops _ _ tt (byte-past doc (at + 1) at (omega arith))
+  first-short i h = stops _ _ tt (byte-past doc (at + 1) at tt (omega arith))
 
   module _ (b0 : ℕ) (i : at < length doc) (h : 1 < length doc - at) (e : b0 ≡ getD doc (at + 1) 0) where
     first : ask (keyNumberAt doc at spelled) ≡ ask (afterFirst doc at b0 (ltb b0 128))
@@ -46,7 +51,7 @@ module _ (doc : List ℕ) (at : ℕ) where
   module _ (b0 : ℕ) where
     pub second-short : at + 1 < length doc → length doc - at ≤ 2 → ask (afterFirst doc at b0 false) ≡ refuses 35 at
     unfolding afterFirst
-    second-short i h = stops _ _ tt (byte-past doc (at + 2) at (omega arith))
+    second-short i h = stops _ _ tt (byte-past doc (at + 2) at tt (omega arith))
 
     module _ (b1 : ℕ) (i : at + 1 < length doc) (h : 2 < length doc - at) (e : b1 ≡ getD doc (at + 2) 0) where
       second : ask (afterFirst doc at b0 false) ≡ ask (afterSecond doc at b0 b1 (ltb b1 128))
@@ -63,7 +68,7 @@ module _ (doc : List ℕ) (at : ℕ) where
 
         pub third-short : length doc - at ≤ 3 → ask (afterFirst doc at b0 false) ≡ refuses 35 at
         unfolding afterSecond
-        third-short l = second-more ∙ stops _ _ tt (byte-past doc (at + 3) at (omega arith))
+        third-short l = second-more ∙ stops _ _ tt (byte-past doc (at + 3) at tt (omega arith))
 
         module _ (b2 : ℕ) (k : 3 < length doc - at) (f : b2 ≡ getD doc (at + 3) 0) where
           pub third-wide : 3 < b2 → ask (afterFirst doc at b0 false) ≡ refuses 37 (at + 3)

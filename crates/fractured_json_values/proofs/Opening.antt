@@ -90,14 +90,14 @@ module _ (doc : List ℕ) (at width tiny : ℕ) where
     unfolding sizedAt choose payload
     short-payload i h =
         let o : length doc < at + 1 + width = omega arith in
-        rw (ne-eqb width 0 more) (stops _ _ tt (fail _ _ _ _ tt (over o)))
+        rw (ne-eqb width 0 more) (fail _ _ _ _ tt (over o))
 
     pub payload-read : (n : ℕ) → at < length doc → width < length doc - at → n ≡ number doc (at + 1) width
         → ask (sizedAt doc at width tiny) ≡ answers (numeral n (at + 1 + width))
     unfolding sizedAt choose
     payload-read n i h e =
         let o : at + 1 + width ≤ length doc = omega arith in
-        rw (ne-eqb width 0 more, e) (then _ _ tt (payload-is doc at width tt o))
+        rw (ne-eqb width 0 more, e) (payload-is doc at width tt o)
 
     pub payload-small : (n : ℕ) → ((k : ℕ) → Fits w8 (getD doc k 0)) → n ≡ number doc (at + 1) width → n < 256 ^ width
     payload-small n g e = rw e (number-small doc (λ k. g k .fits) (at + 1) width)

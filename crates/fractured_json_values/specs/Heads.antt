@@ -1,7 +1,11 @@
 -- What the constant tables of types.rt say of a type byte and of a key byte: the rules' form, as numbers.
 use Prim.Native.Nat.{ℕ, zero, suc, _-_}
 use mathlib.Core.Bool.{true, false}
+use lib.Dec.{eqb}
+use Rattle.json.specs.Choose.{choose}
+use Rattle.json.specs.Reading.{Reading, refuse}
 use Rattle.fractured_json_rules.specs.ByteTables.{bytes, Width, one, two, four, eight, Len, tiny, after, Form, fNull, fBool, fInt, fFloat, fTiny, fString, fObject, fArray, fReserved, KeyNumber, inByte, spelled, KeyForm, immediate, backReference, globalIndex, kReserved}
+use Rattle.fractured_json_rules.specs.Verdict.{Numeral}
 use Rattle.fractured_json_values.specs.declared.types.Head.{Head}
 use Rattle.fractured_json_values.specs.declared.types.KeyHead.{KeyHead}
 
@@ -47,7 +51,13 @@ keyHeadOf (backReference x) = keyHead 1 x
 keyHeadOf (globalIndex x) = keyHead 2 x
 keyHeadOf kReserved = record { kind = 3; spelled = 0; number = 0 }
 
--- the number that a key byte carries, by what the table of key bytes says
+-- ---- a key, by what the table of key bytes says
+
+-- the number that it carries
 abbrev pub keyNumberBy : ℕ → ℕ → KeyNumber
 keyNumberBy zero number = inByte number
 keyNumberBy (suc s) number = spelled
+
+-- once that has been read: `byLength` goes on with an immediate key, `byIndex` with a back reference
+unfoldable pub numberedBy : {S A : Type 0} → ℕ → (Numeral → Reading S A) → (Numeral → Reading S A) → ℕ → Numeral → Reading S A
+numberedBy o byLength byIndex kind n = choose (eqb kind 0) (byLength n) (choose (eqb kind 1) (byIndex n) (refuse 38 o))

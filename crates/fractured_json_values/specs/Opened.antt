@@ -22,7 +22,7 @@ use Rattle.fractured_json_values.specs.declared.values.Open.the-variants
 
 -- a length or payload of the value at o, and where that ends: in the type byte (width 0), or in the bytes after it
 unfoldable pub sizedAt : {S : Type 0} → List ℕ → ℕ → ℕ → ℕ → Reading S Rules.Numeral
-sizedAt doc o width tiny = choose (eqb width 0) (answer (numeral tiny (o + 1))) (payload doc o width >>= λ n. answer (numeral n (o + 1 + width)))
+sizedAt doc o width tiny = choose (eqb width 0) (answer (numeral tiny (o + 1))) (payload doc o width)
 
 -- a value without contents, by its end; or n values or members from an offset on
 pub data Opened : Type 0 where
