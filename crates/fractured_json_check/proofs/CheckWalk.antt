@@ -67,14 +67,14 @@ module _ (doc : List ℕ) (object : Bool) (at : ℕ) where
       go false = refl
 
   module _ (below count : ℕ) (words links : List ℕ) (k : Walk) (after linked : List ℕ) (e : out k after linked ≡ keyedIn object doc at (table count words links)) where
-    pub behind-key : (v c : ℕ) (r : Outcome Table ℕ) → k ≡ Walk.End c v → r ≡ value (keyIn doc) below doc v (table c after linked)
+    pub after-key : (v c : ℕ) (r : Outcome Table ℕ) → k ≡ Walk.End c v → r ≡ value (keyIn doc) below doc v (table c after linked)
         → r ≡ entry object (keyIn doc) (value (keyIn doc) below doc) at (table count words links)
-    behind-key v c r q h = h ∙ sym (entry-is _ _ ∙ then _ _ _ (sym e ∙ ap (λ w. out w after linked) q))
+    after-key v c r q h = h ∙ sym (entry-is _ _ ∙ then _ _ _ (sym e ∙ ap (λ w. out w after linked) q))
 
     pub key-halts : (r : Refusal) (c : ℕ) → k ≡ Walk.Refused c r → halt (r .number) (r .place) (table c after linked) ≡ entry object (keyIn doc) (value (keyIn doc) below doc) at (table count words links)
     key-halts r c q = sym (entry-is _ _ ∙ stops _ _ _ (sym e ∙ ap (λ w. out w after linked) q))
 
-pub ruleset entry-laws = (behind-key, key-halts, needs)
+pub ruleset entry-laws = (after-key, key-halts, needs)
 
 -- ---- where the value of an entry starts
 
@@ -91,8 +91,8 @@ module _ (doc : List ℕ) (object : Bool) (at count : ℕ) (words links : List �
   unfolding keyedIn Known
   key-known e r k t = rw e (sym (k t .1 words links))
 
-pub behind-fits : (doc : List ℕ) (count at : ℕ) (r : Bool) → Known doc count at r → r ≡ true → length doc < 2 ^ 32 → Fits w64 (at + 1)
+pub after-fits : (doc : List ℕ) (count at : ℕ) (r : Bool) → Known doc count at r → r ≡ true → length doc < 2 ^ 32 → Fits w64 (at + 1)
 unfolding Known
-behind-fits doc count at r k t l = let i = k t .0 in record { fits = omega arith }
+after-fits doc count at r k t l = let i = k t .0 in record { fits = omega arith }
 
-pub ruleset keyed-laws = (no-key, key-read, key-known, behind-fits, needs)
+pub ruleset keyed-laws = (no-key, key-read, key-known, after-fits, needs)

@@ -5,27 +5,25 @@ use mathlib.Core.Bool.{Bool, true, false, not}
 use mathlib.Core.List.{List, [], _∷_, _++_}
 use Prim.Native.Nat.{ℕ, zero, suc, _+_, _*_, _/_, _≤_, _<_, min}
 use native.Mathlib.Omega.{arith}
-use lib.Dec.{T, ltb, ltb→lt}
+use lib.Dec.{T, ltb, leb, ltb→lt}
 use lib.ListN.{length, getD, drop, length-append}
 use Rattle.json.specs.Bytes.{part}
-use Rattle.json.specs.Choose.{choose}
 use Rattle.json.specs.Limits.{mostKeys, deepest}
 use Rattle.json.specs.Reading.{Outcome, halt, done, Reading, Asked, ask, answer, keep, follow, _>>=_, need}
-use Rattle.fractured_json_rules.specs.ByteTables.{Index, inByte, spelled, KeyForm, immediate, backReference, globalIndex, kReserved, keyFormOf}
+use Rattle.fractured_json_rules.specs.ByteTables.{KeyNumber, KeyForm, immediate, backReference, globalIndex, kReserved, keyFormOf}
 use Rattle.fractured_json_rules.specs.Meaning.{Key, Keys}
-use Rattle.fractured_json_rules.specs.Verdict.{byteAt, Counted, indexAt, inTurn, member, value, met, newKey, oldKey, checkKeyBy, checkKey}
+use Rattle.fractured_json_rules.specs.Verdict.{byteAt, textAt, Numeral, numeral, keyNumberAt, inTurn, member, value, keyBy, met, newKey, oldKey, checkKey}
 use Rattle.fractured_json_rules.specs.KeyTable.{roomOf, pairs, stored, keyOf}
 use Rattle.fractured_json_rules.proofs.KeyTable.{room-words, stored-length}
 use Rattle.fractured_json_rules.proofs.Readers.{kept-is, keep-is}
-use Rattle.fractured_json_values.specs.Heads.{keyHeadOf}
 use Rattle.fractured_json_values.specs.Opened.{Opened, leaf, inside, openedAt}
 use Rattle.fractured_json_keys.specs.Passed.{keysFrom, keysIn, withPair}
 use Rattle.fractured_json_keys.specs.Chains.{bucketsIn, bucketOf, seenIn, linkedIn}
 use Rattle.fractured_json_keys.proofs.Chained.{Linked, no-links, seen-met, linked-more}
-use Rattle.fractured_json_check.specs.Table.{Table, table, freshKeyIn, newKeyIn, oldKeyIn, numberedIn, keyHeadIn, keyIn, out, walkedBy, walked, toldWalk}
+use Rattle.fractured_json_check.specs.Table.{Table, table, freshKeyIn, newKeyIn, oldKeyIn, keyIn, out, walkedBy, walked, toldWalk}
 use Rattle.fractured_json_check.specs.declared.walk.Walk.{Walk}
 use Rattle.fractured_json_check.specs.declared.walk.Walk.the-variants.{End, Refused}
-use Rattle.fractured_json_values.proofs.Carried.{carry, carry-need, carry-byte, carry-index, carry-opened}
+use Rattle.fractured_json_values.proofs.Carried.{carry, carry-byte, carry-key-number, carry-opened}
 use Rattle.fractured_json_values.proofs.Walks.{onOpened, value-opened}
 
 -- ---- the words that hold the pairs of some keys
@@ -107,7 +105,7 @@ module _ (words doc : List ℕ) where
   alike-by : {A : Type 0} {r x : Outcome Keys A} {q y : Outcome Table A} → r ≡ x → q ≡ y → Alike x y → Alike r q
   alike-by e f h = rw (e, f) h
 
-  -- a test that is the same on both sides, and what is known behind it
+  -- a test that is the same on both sides, and what is known after it
   sim-test : {B : Type 0} (b c : Bool) (n p : ℕ) (f : Unit {0} → Reading Keys B) (g : Unit {0} → Reading Table B) (ks : Keys) (t : Table) → b ≡ c → Tied ks t
       → (T b → Alike (f tt ks) (g tt t)) → Alike ((need b n p >>= f) ks) ((need c n p >>= g) t)
   unfolding _>>=_ follow need
@@ -117,8 +115,17 @@ module _ (words doc : List ℕ) where
   sim-byte : (o p : ℕ) → Sim (byteAt doc o p) (byteAt doc o p)
   sim-byte o p ks t r = rw (carry-byte doc o p ks, carry-byte doc o p t) (sim-carry (ask (byteAt doc o p)) ks t r)
 
-  sim-index : (o : ℕ) (x : Index) → Sim (indexAt doc o x) (indexAt doc o x)
-  sim-index o x ks t r = rw (carry-index doc o x ks, carry-index doc o x t) (sim-carry (ask (indexAt doc o x)) ks t r)
+  sim-key-number : (o : ℕ) (x : KeyNumber) → Sim (keyNumberAt doc o x) (keyNumberAt doc o x)
+  sim-key-number o x ks t r = rw (carry-key-number doc o x ks, carry-key-number doc o x t) (sim-carry (ask (keyNumberAt doc o x)) ks t r)
+
+  sim-end : {B : Type 0} (b : Bool) (n p e : ℕ) (f : ℕ → Reading Keys B) (g : ℕ → Reading Table B) → Sim (f e) (g e) → Sim ((need b n p >>= λ _. answer e) >>= f) ((need b n p >>= λ _. answer e) >>= g)
+  unfolding _>>=_ follow need
+  sim-end true n p e f g h = h
+  sim-end false n p e f g h = λ ks t r. (refl, refl, r)
+
+  sim-text : {B : Type 0} (o : ℕ) (n : Numeral) (f : ℕ → Reading Keys B) (g : ℕ → Reading Table B) → Sim (f (n .past + n .is)) (g (n .past + n .is)) → Sim (textAt doc o n >>= f) (textAt doc o n >>= g)
+  unfolding textAt
+  sim-text o n f g h = sim-end (leb (n .past + n .is) (length doc)) 35 o (n .past + n .is) f g h
 
   sim-opened : (o : ℕ) → Sim (openedAt doc o) (openedAt doc o)
   sim-opened o ks t r = rw (carry-opened doc o ks, carry-opened doc o t) (sim-carry (ask (openedAt doc o)) ks t r)
@@ -149,7 +156,7 @@ module _ (words doc : List ℕ) where
       let y = r .roomy in
       omega arith
 
-  one-key-more : (ks : Keys) (t : Table) (n : Counted) → Tied ks t → length ks < roomOf words
+  one-key-more : (ks : Keys) (t : Table) (n : Numeral) → Tied ks t → length ks < roomOf words
       → Tied (ks ++ (record { start = n .past; len = n .is } ∷ []))
       (table (t .count + 1) (withPair (t .words) (t .count) (n .past) (n .is)) (linkedIn (t .links) (t .count) (bucketOf (part doc (n .past) (n .is)) (bucketsIn (t .links)))))
   one-key-more ks t n r h =
@@ -163,7 +170,7 @@ module _ (words doc : List ℕ) where
         linked = linked-more doc (t .words) (t .links) (t .count) (n .past) (n .is) (r .linked) (omega arith);
       }
 
-  sim-fresh : (o : ℕ) (n : Counted) (ks : Keys) (t : Table) → Tied ks t
+  sim-fresh : (o : ℕ) (n : Numeral) (ks : Keys) (t : Table) → Tied ks t
       → Alike ((need (ltb (length ks) (roomOf words)) 40 o >>= λ _. keep (ks ++ (record { start = n .past; len = n .is } ∷ [])) >>= λ _. answer (n .past + n .is)) ks)
       (freshKeyIn (bucketOf (part doc (n .past) (n .is)) (bucketsIn (t .links))) o n t)
   unfolding freshKeyIn
@@ -174,26 +181,24 @@ module _ (words doc : List ℕ) where
   same-test : (x : List ℕ) (ks : Keys) (t : Table) → Tied ks t → met doc x ks ≡ seenIn doc x (t .words) (t .links) (t .count)
   same-test x ks t r = sym (seen-met doc x (t .words) (t .links) (t .count) (r .linked) (half ks t r) ∙ ap (met doc x) (same-keys ks t r))
 
-  sim-new : (o : ℕ) (n : Counted) → Sim (newKey (roomOf words) doc o n) (newKeyIn doc o n)
+  sim-new : (o : ℕ) (n : Numeral) → Sim (newKey (roomOf words) doc o n) (newKeyIn doc o n)
   unfolding newKey newKeyIn
-  sim-new o n ks t r =
+  sim-new o n =
+      sim-text o n _ _ λ ks t r.
       let e : not (met doc (part doc (n .past) (n .is)) ks) ≡ not (seenIn doc (part doc (n .past) (n .is)) (t .words) (t .links) (t .count)) = ap not (same-test (part doc (n .past) (n .is)) ks t r) in
-      sim-test _ _ _ _ _ _ ks t refl r (λ y. rw (kept-is _ ks, kept-is _ t) (sim-test _ _ _ _ _ _ ks t e r (λ z. sim-fresh o n ks t r)))
+      rw (kept-is _ ks, kept-is _ t) (sim-test _ _ _ _ _ _ ks t e r (λ z. sim-fresh o n ks t r))
 
-  sim-old : (o : ℕ) (n : Counted) → Sim (oldKey o n) (oldKeyIn o n)
+  sim-old : (o : ℕ) (n : Numeral) → Sim (oldKey o n) (oldKeyIn o n)
   unfolding oldKey oldKeyIn
   sim-old o n ks t r =
       let e : ltb (n .is) (length ks) ≡ ltb (n .is) (t .count) = rw (r .counts) in
       rw (kept-is _ ks, kept-is _ t) (sim-test _ _ _ _ _ _ ks t e r (λ y. (refl, r)))
 
-  sim-by : (o : ℕ) (f : KeyForm) → Sim (checkKeyBy (roomOf words) doc o f) (keyHeadIn doc o (keyHeadOf f))
-  unfolding checkKeyBy keyHeadIn numberedIn choose
-  sim-by o (immediate (inByte k)) = sim-then _ _ _ _ (sim-index o (inByte k)) (λ n. sim-new o n)
-  sim-by o (immediate spelled) = sim-then _ _ _ _ (sim-index o spelled) (λ n. sim-new o n)
-  sim-by o (backReference (inByte k)) = sim-then _ _ _ _ (sim-index o (inByte k)) (λ n. sim-old o n)
-  sim-by o (backReference spelled) = sim-then _ _ _ _ (sim-index o spelled) (λ n. sim-old o n)
-  sim-by o (globalIndex (inByte k)) = sim-then _ _ _ _ (sim-index o (inByte k)) (λ n ks t r. (refl, refl, r))
-  sim-by o (globalIndex spelled) = sim-then _ _ _ _ (sim-index o spelled) (λ n ks t r. (refl, refl, r))
+  sim-by : (o : ℕ) (f : KeyForm) → Sim (keyBy doc o (newKey (roomOf words) doc o) (oldKey o) f) (keyBy doc o (newKeyIn doc o) (oldKeyIn o) f)
+  unfolding keyBy
+  sim-by o (immediate x) = sim-then _ _ _ _ (sim-key-number o x) (λ n. sim-new o n)
+  sim-by o (backReference x) = sim-then _ _ _ _ (sim-key-number o x) (λ n. sim-old o n)
+  sim-by o (globalIndex x) = sim-then _ _ _ _ (sim-key-number o x) (λ n ks t r. (refl, refl, r))
   sim-by o kReserved = λ ks t r. (refl, refl, r)
 
   sim-key : (o : ℕ) → Sim (checkKey (roomOf words) doc o) (keyIn doc o)
@@ -211,20 +216,20 @@ module _ (words doc : List ℕ) where
   unfolding member
   sim-member f g h o = sim-then _ _ _ _ (sim-key o) (λ v. h v)
 
-  sim-on : (array object : ℕ → ℕ → Reading Keys ℕ) (array' object' : ℕ → ℕ → Reading Table ℕ) → ((n at : ℕ) → Sim (array n at) (array' n at)) → ((n at : ℕ) → Sim (object n at) (object' n at))
+  sim-on : (array object : Numeral → Reading Keys ℕ) (array' object' : Numeral → Reading Table ℕ) → ((n : Numeral) → Sim (array n) (array' n)) → ((n : Numeral) → Sim (object n) (object' n))
       → (x : Opened) → Sim (onOpened array object x) (onOpened array' object' x)
   sim-on array object array' object' h k (leaf e) = λ ks t r. (refl, r)
-  sim-on array object array' object' h k (inside true n at) = k n at
-  sim-on array object array' object' h k (inside false n at) = h n at
+  sim-on array object array' object' h k (inside true n at) = k (numeral n at)
+  sim-on array object array' object' h k (inside false n at) = h (numeral n at)
 
   sim-value : (l o : ℕ) → Sim (value (checkKey (roomOf words) doc) l doc o) (value (keyIn doc) l doc o)
   unfolding value
   sim-value zero o ks t r =
       alike-by (value-opened doc o _ _ ks) (value-opened doc o _ _ t)
-      (sim-then _ _ _ _ (sim-opened o) (sim-on _ _ _ _ (λ n at ks t r. (refl, refl, r)) (λ n at ks t r. (refl, refl, r))) ks t r)
+      (sim-then _ _ _ _ (sim-opened o) (sim-on _ _ _ _ (λ n ks t r. (refl, refl, r)) (λ n ks t r. (refl, refl, r))) ks t r)
   sim-value (suc l) o ks t r =
       alike-by (value-opened doc o _ _ ks) (value-opened doc o _ _ t)
-      (sim-then _ _ _ _ (sim-opened o) (sim-on _ _ _ _ (sim-turns _ _ (sim-value l)) (sim-turns _ _ (sim-member _ _ (sim-value l)))) ks t r)
+      (sim-then _ _ _ _ (sim-opened o) (sim-on _ _ _ _ (λ n. sim-turns _ _ (sim-value l) (n .is) (n .past)) (λ n. sim-turns _ _ (sim-member _ _ (sim-value l)) (n .is) (n .past))) ks t r)
 
   same-walk : (r : Outcome Keys ℕ) (w : Walk) (after links : List ℕ) → Alike r (out w after links) → toldWalk w after ≡ walkedBy words r
   same-walk (halt n p ks) (Refused c q) after links h = rw (h .0, h .1, h .2 .counts, h .2 .holds)

@@ -3,18 +3,15 @@
 use Prim.Native.Nat.{ℕ, _+_}
 use mathlib.Core.Bool.{Bool, true, false, not}
 use mathlib.Core.List.{List, []}
-use lib.Dec.{ltb, leb, eqb}
+use lib.Dec.{ltb}
 use lib.ListN.{length}
 use Rattle.json.specs.Bytes.{part}
-use Rattle.json.specs.Choose.{choose}
 use Rattle.json.specs.Limits.{deepest}
-use Rattle.json.specs.Reading.{Outcome, halt, done, Reading, Asked, answers, refuses, answer, refuse, kept, keep, _>>=_, _>>_, need}
+use Rattle.json.specs.Reading.{Outcome, halt, done, Reading, Asked, answers, refuses, answer, kept, keep, _>>=_, _>>_, need}
 use Rattle.fractured_json_rules.specs.ByteTables.{keyFormOf}
 use Rattle.fractured_json_rules.specs.Meaning.{Keys}
-use Rattle.fractured_json_rules.specs.Verdict.{byteAt, Counted, indexAt, value, checkKey}
+use Rattle.fractured_json_rules.specs.Verdict.{byteAt, textAt, Numeral, value, keyBy, checkKey}
 use Rattle.fractured_json_rules.specs.KeyTable.{roomOf, stored}
-use Rattle.fractured_json_values.specs.Heads.{keyHeadOf, indexBy}
-use Rattle.fractured_json_values.specs.declared.types.KeyHead.{KeyHead}
 use Rattle.fractured_json_keys.specs.Passed.{withPair}
 use Rattle.fractured_json_keys.specs.Chains.{bucketsIn, bucketOf, seenIn, linkedIn}
 use Rattle.fractured_json_check.specs.declared.walk.Walk.{Walk}
@@ -32,39 +29,32 @@ table c ws ls = record { count = c; words = ws; links = ls }
 
 -- a key whose text is fresh and falls into the bucket b, if there is room for it: once passed, it has its pair, its link and its
 -- number
-unfoldable pub freshKeyIn : ℕ → ℕ → Counted → Reading Table ℕ
+unfoldable pub freshKeyIn : ℕ → ℕ → Numeral → Reading Table ℕ
 freshKeyIn b o n = do
   t ← kept
   need (ltb (t .count) (roomOf (t .words))) 40 o
   keep (table (t .count + 1) (withPair (t .words) (t .count) (n .past) (n .is)) (linkedIn (t .links) (t .count) b))
   answer (n .past + n .is)
 
-unfoldable pub newKeyIn : List ℕ → ℕ → Counted → Reading Table ℕ
+unfoldable pub newKeyIn : List ℕ → ℕ → Numeral → Reading Table ℕ
 newKeyIn doc o n = do
-  need (leb (n .past + n .is) (length doc)) 35 o
+  _ ← textAt doc o n
   t ← kept
   need (not (seenIn doc (part doc (n .past) (n .is)) (t .words) (t .links) (t .count))) 39 o
   freshKeyIn (bucketOf (part doc (n .past) (n .is)) (bucketsIn (t .links))) o n
 
-unfoldable pub oldKeyIn : ℕ → Counted → Reading Table ℕ
+unfoldable pub oldKeyIn : ℕ → Numeral → Reading Table ℕ
 oldKeyIn o n = do
   t ← kept
   need (ltb (n .is) (t .count)) 38 o
   answer (n .past)
 
--- a key by its kind, once its number has been read
-unfoldable pub numberedIn : List ℕ → ℕ → ℕ → Counted → Reading Table ℕ
-numberedIn doc o kind n = choose (eqb kind 0) (newKeyIn doc o n) (choose (eqb kind 1) (oldKeyIn o n) (refuse 38 o))
-
-unfoldable pub keyHeadIn : List ℕ → ℕ → KeyHead → Reading Table ℕ
-keyHeadIn doc o h = choose (eqb (h .kind) 3) (refuse 36 o) (indexAt doc o (indexBy (h .spelled) (h .number)) >>= λ n. numberedIn doc o (h .kind) n)
-
 unfoldable pub keyIn : List ℕ → ℕ → Reading Table ℕ
 keyIn doc o = do
   b ← byteAt doc o o
-  keyHeadIn doc o (keyHeadOf (keyFormOf b))
+  keyBy doc o (newKeyIn doc o) (oldKeyIn o) (keyFormOf b)
 
--- where the value of an entry starts: in an object behind its key
+-- where the value of an entry starts: in an object after its key
 unfoldable pub keyedIn : Bool → List ℕ → ℕ → Reading Table ℕ
 keyedIn true doc o = keyIn doc o
 keyedIn false doc o = answer o

@@ -4,17 +4,18 @@ use fractured_json_keys::chains::bucket_of;
 use fractured_json_keys::chains::link;
 use fractured_json_keys::chains::was_met;
 use fractured_json_keys::pairs::store;
-use fractured_json_values::index::index_at;
+use fractured_json_values::key_number::key_number_at;
 use fractured_json_values::texts::room_of;
 use fractured_json_values::types::key_head;
-use fractured_json_values::values::Counted;
+use fractured_json_values::values::Numeral;
 use json::Refusal;
 ghost use mathlib.Core.Path.{_≡_};
 ghost use Prim.Native.Nat.{_+_, _^_, _≤_, _<_};
 ghost use lib.ListN.{length};
-ghost use Rattle.fractured_json_rules.specs.Verdict.{counted};
+ghost use Rattle.fractured_json_rules.specs.Verdict.{numeral};
+ghost use Rattle.fractured_json_values.specs.Heads.{numberedBy};
 ghost use Rattle.fractured_json_check.specs.Known.{Known};
-ghost use Rattle.fractured_json_check.specs.Table.{table, freshKeyIn, newKeyIn, numberedIn, keyIn, out};
+ghost use Rattle.fractured_json_check.specs.Table.{table, freshKeyIn, newKeyIn, oldKeyIn, keyIn, out};
 
 // An immediate key whose text of `number` bytes at `past` is fresh and falls into the bucket `b`: once passed, it has its pair,
 // its link and its number.
@@ -28,7 +29,7 @@ fn fresh_key(
     past: usize,
 ) -> Walk
     requires { ⌜ past + number < 2 ^ 32 ⌝ }
-    ensures { λ r. ⌜ out r (now (keys .exit)) (now (links .exit)) ≡ freshKeyIn b at (counted number past) (table count (now (keys .entry)) (now (links .entry))) ⌝ }
+    ensures { λ r. ⌜ out r (now (keys .exit)) (now (links .exit)) ≡ freshKeyIn b at (numeral number past) (table count (now (keys .entry)) (now (links .entry))) ⌝ }
 {
     if room_of(keys) <= count {
         return Walk::Refused {
@@ -58,7 +59,7 @@ fn new_key(
     past: usize,
 ) -> Walk
     requires { ⌜ (length (now doc) < 2 ^ 32) × (past ≤ length (now doc)) ⌝ }
-    ensures { λ r. ⌜ out r (now (keys .exit)) (now (links .exit)) ≡ newKeyIn (now (doc .entry)) at (counted number past) (table count (now (keys .entry)) (now (links .entry))) ⌝ }
+    ensures { λ r. ⌜ out r (now (keys .exit)) (now (links .exit)) ≡ newKeyIn (now (doc .entry)) at (numeral number past) (table count (now (keys .entry)) (now (links .entry))) ⌝ }
 {
     if doc.len() - past < number {
         return Walk::Refused {
@@ -82,7 +83,7 @@ fn new_key(
     fresh_key(keys, links, b, count, at, number, past)
 }
 
-// A key by its kind, once its number has been read.
+// A key by its kind, once the number that it carries has been read.
 fn numbered(
     doc: &[u8],
     keys: &mut [u32],
@@ -94,7 +95,7 @@ fn numbered(
     past: usize,
 ) -> Walk
     requires { ⌜ (length (now doc) < 2 ^ 32) × (past ≤ length (now doc)) ⌝ }
-    ensures { λ r. ⌜ out r (now (keys .exit)) (now (links .exit)) ≡ numberedIn (now (doc .entry)) at kind (counted number past) (table count (now (keys .entry)) (now (links .entry))) ⌝ }
+    ensures { λ r. ⌜ out r (now (keys .exit)) (now (links .exit)) ≡ numberedBy at (newKeyIn (now (doc .entry)) at) (oldKeyIn at) kind (numeral number past) (table count (now (keys .entry)) (now (links .entry))) ⌝ }
 {
     if kind == 0 {
         return new_key(doc, keys, links, count, at, number, past);
@@ -151,10 +152,10 @@ pub(crate) fn check_key(
             },
         };
     }
-    let n = index_at(doc, at, h.spelled, h.number);
+    let n = key_number_at(doc, at, h.spelled, h.number);
     match n {
-        Counted::Refused(refusal) => Walk::Refused { count, refusal },
-        Counted::Is { number, past } => numbered(doc, keys, links, count, at, kind, number, past),
+        Numeral::Refused(refusal) => Walk::Refused { count, refusal },
+        Numeral::Is { number, past } => numbered(doc, keys, links, count, at, kind, number, past),
     }
 }
 

@@ -97,7 +97,7 @@ pub(crate) fn contents(
     Walk::End { count, at }
 }
 
-// One entry: a value, in an object behind its key.
+// One entry: a value, in an object after its key.
 fn entry(
     doc: &[u8],
     keys: &mut [u32],
@@ -117,7 +117,7 @@ fn entry(
     }
 }
 
-// Where the value of an entry starts: in an object behind its key.
+// Where the value of an entry starts: in an object after its key.
 fn keyed(
     doc: &[u8],
     keys: &mut [u32],

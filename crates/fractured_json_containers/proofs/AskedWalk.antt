@@ -65,11 +65,11 @@ module _ (doc words : List ℕ) (count : ℕ) (object : Bool) (below at : ℕ) w
   as-value r e h = h ∙ sym (entry-plain (passKey doc words count) (value (passKey doc words count) below doc) object at tt e)
 
   module _ (o : object ≡ true) (k : KeyText) (ks : toldKey doc k ≡ ask (readKey doc words count at)) where
-    pub behind-key : (s l p : ℕ) (r : Asked ℕ) → k ≡ KeyText.At s l p → r ≡ ask (value (passKey doc words count) below doc p)
+    pub after-key : (s l p : ℕ) (r : Asked ℕ) → k ≡ KeyText.At s l p → r ≡ ask (value (passKey doc words count) below doc p)
         → r ≡ ask (entry object (passKey doc words count) (value (passKey doc words count) below doc) at)
-    behind-key s l p r q h = h ∙ sym (entry-keyed (passKey doc words count) (value (passKey doc words count) below doc) object at tt p _ o (passes-key doc words count at k ks s l p q))
+    after-key s l p r q h = h ∙ sym (entry-keyed (passKey doc words count) (value (passKey doc words count) below doc) object at tt p _ o (passes-key doc words count at k ks s l p q))
 
     pub key-halts : (r : Refusal) → k ≡ KeyText.Refused r → refuses (r .number) (r .place) ≡ ask (entry object (passKey doc words count) (value (passKey doc words count) below doc) at)
     key-halts r q = sym (entry-halts (passKey doc words count) (value (passKey doc words count) below doc) object at tt _ _ _ o (stops-at-key doc words count at k ks r q))
 
-pub ruleset entry-laws = (as-value, behind-key, key-halts, needs)
+pub ruleset entry-laws = (as-value, after-key, key-halts, needs)

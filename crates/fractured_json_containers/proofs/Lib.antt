@@ -1,4 +1,3 @@
-pub mod Forms
 pub mod AskedKeys
 pub mod AskedWalk
 pub mod LookupLaws

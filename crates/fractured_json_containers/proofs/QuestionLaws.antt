@@ -12,17 +12,16 @@ use Rattle.json.specs.declared.Refusal.{Refusal}
 use Rattle.json.specs.declared.Verdict.{Verdict}
 use Rattle.json.proofs.Reading.{then, stops, pass, fail}
 use Rattle.fractured_json_rules.specs.Verdict.{inTurn, value}
-use Rattle.fractured_json_rules.specs.Questions.{opening, readKey, passKey, endOf, arrayBy, objectBy, elementFrom, elementAt, MemberAt, memberFrom, memberAt, Found, findIn, firstMember}
-use Rattle.fractured_json_values.specs.Opened.{entry, Counts}
-use Rattle.fractured_json_scalars.specs.Asked.{wantedAt}
+use Rattle.fractured_json_rules.specs.Questions.{opening, readKey, passKey, endOf, anObject, anArray, elementFrom, elementAt, MemberAt, memberFrom, memberAt, Found, findIn, firstMember}
+use Rattle.fractured_json_values.specs.Opened.{entry, ReadsNumeral}
+use Rattle.fractured_json_scalars.specs.Asked.{wantedIn}
 use Rattle.fractured_json_containers.specs.Asked.{toldKey}
 use Rattle.fractured_json_answers.specs.Told.{toldPlace}
 use Rattle.fractured_json_answers.specs.declared.Place.{Place}
-use Rattle.fractured_json_values.specs.declared.values.Counted.{Counted}
+use Rattle.fractured_json_values.specs.declared.values.Numeral.{Numeral}
 use Rattle.fractured_json_containers.specs.declared.skip.KeyText.{KeyText}
-use Rattle.fractured_json_scalars.proofs.Entering.{behind-length, length-refused, length-read}
+use Rattle.fractured_json_scalars.proofs.Entering.{length-refused, length-read}
 use Rattle.fractured_json_containers.proofs.AskedWalk.{passes-key, stops-at-key}
-use Rattle.fractured_json_containers.proofs.Forms.{array-form, object-form}
 
 -- ---- its end
 
@@ -49,16 +48,14 @@ module _ (doc words : List ℕ) (count at i : ℕ) where
   unfolding elementFrom entry
   element-walked n first r h e = e ∙ sym (pass _ _ _ _ tt (lt→ltb _ _ h))
 
-  module _ (c : Counted) (cs : Counts (length doc) (ask (wantedAt doc at 10)) c) where
-    element-behind : ask (elementAt doc words count at i) ≡ ask (wantedAt doc at 10 >>= λ n. elementFrom doc words count at i (n .is) (n .past))
+  module _ (c : Numeral) (cs : ReadsNumeral (length doc) (ask (wantedIn doc at 10)) c) where
+    pub element-refused : (r : Refusal) → c ≡ Numeral.Refused r → refuses (r .number) (r .place) ≡ ask (elementAt doc words count at i)
     unfolding elementAt
-    element-behind = behind-length doc at 10 (arrayBy doc at (λ n p. elementFrom doc words count at i n p)) (λ n. elementFrom doc words count at i (n .is) (n .past)) (array-form doc at (λ n p. elementFrom doc words count at i n p))
+    element-refused r q = sym (length-refused doc at anArray _ c cs r q)
 
-    pub element-refused : (r : Refusal) → c ≡ Counted.Refused r → refuses (r .number) (r .place) ≡ ask (elementAt doc words count at i)
-    element-refused r q = sym (element-behind ∙ length-refused doc at 10 _ c cs r q)
-
-    pub element-read : (n p : ℕ) (r : Asked ℕ) → c ≡ Counted.Is n p → r ≡ ask (elementFrom doc words count at i n p) → r ≡ ask (elementAt doc words count at i)
-    element-read n p r q e = e ∙ sym (element-behind ∙ length-read doc at 10 (λ n. elementFrom doc words count at i (n .is) (n .past)) c cs n p q)
+    pub element-read : (n p : ℕ) (r : Asked ℕ) → c ≡ Numeral.Is n p → r ≡ ask (elementFrom doc words count at i n p) → r ≡ ask (elementAt doc words count at i)
+    unfolding elementAt
+    element-read n p r q e = e ∙ sym (length-read doc at anArray _ c cs n p q)
 
 pub ruleset element-from-laws = (element-past, element-walked, needs)
 
@@ -85,16 +82,14 @@ module _ (doc words : List ℕ) (count at j : ℕ) where
       unfolding memberFrom entry
       member-found s l p e = sym (pass _ _ _ _ tt (lt→ltb _ _ h) ∙ (then _ _ tt (sym ws ∙ ap toldPlace q) ∙ then _ _ tt (passes-key doc words count o k ks s l p e)))
 
-  module _ (c : Counted) (cs : Counts (length doc) (ask (wantedAt doc at 9)) c) where
-    member-behind : ask (memberAt doc words count at j) ≡ ask (wantedAt doc at 9 >>= λ n. memberFrom doc words count at j (n .is) (n .past))
+  module _ (c : Numeral) (cs : ReadsNumeral (length doc) (ask (wantedIn doc at 9)) c) where
+    pub member-refused : (r : Refusal) → c ≡ Numeral.Refused r → refuses (r .number) (r .place) ≡ ask (memberAt doc words count at j)
     unfolding memberAt
-    member-behind = behind-length doc at 9 (objectBy doc at (λ n p. memberFrom doc words count at j n p)) (λ n. memberFrom doc words count at j (n .is) (n .past)) (object-form doc at (λ n p. memberFrom doc words count at j n p))
+    member-refused r q = sym (length-refused doc at anObject _ c cs r q)
 
-    pub member-refused : (r : Refusal) → c ≡ Counted.Refused r → refuses (r .number) (r .place) ≡ ask (memberAt doc words count at j)
-    member-refused r q = sym (member-behind ∙ length-refused doc at 9 _ c cs r q)
-
-    pub member-read : (n p : ℕ) (r : Asked MemberAt) → c ≡ Counted.Is n p → r ≡ ask (memberFrom doc words count at j n p) → r ≡ ask (memberAt doc words count at j)
-    member-read n p r q e = e ∙ sym (member-behind ∙ length-read doc at 9 (λ n. memberFrom doc words count at j (n .is) (n .past)) c cs n p q)
+    pub member-read : (n p : ℕ) (r : Asked MemberAt) → c ≡ Numeral.Is n p → r ≡ ask (memberFrom doc words count at j n p) → r ≡ ask (memberAt doc words count at j)
+    unfolding memberAt
+    member-read n p r q e = e ∙ sym (length-read doc at anObject _ c cs n p q)
 
 pub ruleset member-from-laws = (member-past, members-refused, key-refused, member-found, needs)
 
@@ -102,15 +97,13 @@ pub ruleset member-laws = (member-refused, member-read, needs)
 
 -- ---- the first member by key
 
-module _ (doc words : List ℕ) (count at : ℕ) (x : List ℕ) (c : Counted) (cs : Counts (length doc) (ask (wantedAt doc at 9)) c) where
-  find-behind : ask (firstMember doc words count at x) ≡ ask (wantedAt doc at 9 >>= λ n. findIn doc words count x (n .is) (n .past))
+module _ (doc words : List ℕ) (count at : ℕ) (x : List ℕ) (c : Numeral) (cs : ReadsNumeral (length doc) (ask (wantedIn doc at 9)) c) where
+  pub find-refused : (r : Refusal) → c ≡ Numeral.Refused r → refuses (r .number) (r .place) ≡ ask (firstMember doc words count at x)
   unfolding firstMember
-  find-behind = behind-length doc at 9 (objectBy doc at (λ n p. findIn doc words count x n p)) (λ n. findIn doc words count x (n .is) (n .past)) (object-form doc at (λ n p. findIn doc words count x n p))
+  find-refused r q = sym (length-refused doc at anObject _ c cs r q)
 
-  pub find-refused : (r : Refusal) → c ≡ Counted.Refused r → refuses (r .number) (r .place) ≡ ask (firstMember doc words count at x)
-  find-refused r q = sym (find-behind ∙ length-refused doc at 9 _ c cs r q)
-
-  pub find-read : (n p : ℕ) (r : Asked Found) → c ≡ Counted.Is n p → r ≡ ask (findIn doc words count x n p) → r ≡ ask (firstMember doc words count at x)
-  find-read n p r q e = e ∙ sym (find-behind ∙ length-read doc at 9 (λ n. findIn doc words count x (n .is) (n .past)) c cs n p q)
+  pub find-read : (n p : ℕ) (r : Asked Found) → c ≡ Numeral.Is n p → r ≡ ask (findIn doc words count x n p) → r ≡ ask (firstMember doc words count at x)
+  unfolding firstMember
+  find-read n p r q e = e ∙ sym (length-read doc at anObject _ c cs n p q)
 
 pub ruleset first-member-laws = (find-refused, find-read, needs)

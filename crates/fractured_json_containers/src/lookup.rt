@@ -22,7 +22,7 @@ pub enum Look {
     Refused(Refusal),
 }
 
-// The member at a place, with `later` members behind it. Behind the last key nothing is read.
+// The member at a place, with `later` members after it. After the last key nothing is read.
 fn look_at(doc: &[u8], keys: &[u32], count: usize, x: &[u8], at: usize, later: usize) -> Look
     ensures { λ r. ⌜ Looks (now (doc .entry)) (now (keys .entry)) count (now (x .entry)) later at r ⌝ }
 {

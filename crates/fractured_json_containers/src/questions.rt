@@ -11,7 +11,7 @@ use fractured_json_answers::Member;
 use fractured_json_answers::Place;
 use fractured_json_scalars::enter::open_question;
 use fractured_json_scalars::enter::wanted;
-use fractured_json_values::values::Counted;
+use fractured_json_values::values::Numeral;
 use json::Refusal;
 use json::Verdict;
 use json::limits::DEEPEST;
@@ -63,8 +63,8 @@ pub fn element(doc: &[u8], keys: &[u32], count: usize, at: usize, i: usize) -> P
 {
     let n = wanted(doc, at, ARRAY);
     match n {
-        Counted::Refused(r) => Place::Refused(r),
-        Counted::Is { number, past } => element_from(doc, keys, count, at, i, number, past),
+        Numeral::Refused(r) => Place::Refused(r),
+        Numeral::Is { number, past } => element_from(doc, keys, count, at, i, number, past),
     }
 }
 
@@ -112,8 +112,8 @@ pub fn member(doc: &[u8], keys: &[u32], count: usize, at: usize, j: usize) -> Me
 {
     let n = wanted(doc, at, OBJECT);
     match n {
-        Counted::Refused(r) => Member::Refused(r),
-        Counted::Is { number, past } => member_from(doc, keys, count, at, j, number, past),
+        Numeral::Refused(r) => Member::Refused(r),
+        Numeral::Is { number, past } => member_from(doc, keys, count, at, j, number, past),
     }
 }
 
@@ -123,7 +123,7 @@ pub fn first_member(doc: &[u8], keys: &[u32], count: usize, at: usize, x: &[u8])
 {
     let n = wanted(doc, at, OBJECT);
     match n {
-        Counted::Refused(r) => Found::Refused(r),
-        Counted::Is { number, past } => find(doc, keys, count, x, number, past),
+        Numeral::Refused(r) => Found::Refused(r),
+        Numeral::Is { number, past } => find(doc, keys, count, x, number, past),
     }
 }

@@ -1,10 +1,10 @@
 // The questions' walk over a value: keys go by a table and count as they are handed in.
 use fractured_json_answers::Place;
-use fractured_json_values::index::index_at;
+use fractured_json_values::key_number::key_number_at;
 use fractured_json_values::texts::room_of;
 use fractured_json_values::texts::word_of;
 use fractured_json_values::types::key_head;
-use fractured_json_values::values::Counted;
+use fractured_json_values::values::Numeral;
 use fractured_json_values::values::Open;
 use fractured_json_values::values::open_at;
 use json::Refusal;
@@ -13,10 +13,11 @@ ghost use mathlib.Core.Path.{_≡_};
 ghost use Prim.Native.Nat.{_≤_};
 ghost use lib.ListN.{length};
 ghost use Rattle.json.specs.Reading.{ask};
-ghost use Rattle.fractured_json_rules.specs.Verdict.{counted, inTurn, value};
-ghost use Rattle.fractured_json_rules.specs.Questions.{backKey, readKey, passKey};
+ghost use Rattle.fractured_json_rules.specs.Verdict.{numeral, inTurn, value};
+ghost use Rattle.fractured_json_rules.specs.Questions.{textKey, backKey, readKey, passKey};
+ghost use Rattle.fractured_json_values.specs.Heads.{numberedBy};
 ghost use Rattle.fractured_json_values.specs.Opened.{entry};
-ghost use Rattle.fractured_json_containers.specs.Asked.{numberedKey, toldKey};
+ghost use Rattle.fractured_json_containers.specs.Asked.{toldKey};
 ghost use Rattle.fractured_json_answers.specs.Told.{toldPlace};
 
 // The levels left for the values in a container at the cursor.
@@ -41,7 +42,7 @@ fn back_key(
     number: usize,
     past: usize,
 ) -> KeyText
-    ensures { λ r. ⌜ toldKey (now (doc .entry)) r ≡ ask (backKey (now (doc .entry)) (now (keys .entry)) count at (counted number past)) ⌝ }
+    ensures { λ r. ⌜ toldKey (now (doc .entry)) r ≡ ask (backKey (now (doc .entry)) (now (keys .entry)) count at (numeral number past)) ⌝ }
 {
     if count <= number {
         return KeyText::Refused(Refusal {
@@ -77,7 +78,7 @@ fn numbered_key(
     past: usize,
 ) -> KeyText
     requires { ⌜ past ≤ length (now doc) ⌝ }
-    ensures { λ r. ⌜ toldKey (now (doc .entry)) r ≡ ask (numberedKey (now (doc .entry)) (now (keys .entry)) count at kind (counted number past)) ⌝ }
+    ensures { λ r. ⌜ toldKey (now (doc .entry)) r ≡ ask (numberedBy at (textKey (now (doc .entry)) at) (backKey (now (doc .entry)) (now (keys .entry)) count at) kind (numeral number past)) ⌝ }
 {
     if kind == 0 {
         if doc.len() - past < number {
@@ -119,10 +120,10 @@ pub(crate) fn read_key(doc: &[u8], keys: &[u32], count: usize, at: usize) -> Key
             place: at,
         });
     }
-    let n = index_at(doc, at, h.spelled, h.number);
+    let n = key_number_at(doc, at, h.spelled, h.number);
     match n {
-        Counted::Refused(r) => KeyText::Refused(r),
-        Counted::Is { number, past } => numbered_key(doc, keys, count, at, kind, number, past),
+        Numeral::Refused(r) => KeyText::Refused(r),
+        Numeral::Is { number, past } => numbered_key(doc, keys, count, at, kind, number, past),
     }
 }
 
@@ -179,7 +180,7 @@ pub(crate) fn skip_entries(
     Place::At(at)
 }
 
-// The end of one entry: a value, in an object behind its key.
+// The end of one entry: a value, in an object after its key.
 fn skip_entry(
     doc: &[u8],
     keys: &[u32],

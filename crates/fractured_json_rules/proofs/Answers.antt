@@ -16,13 +16,13 @@ use Rattle.json.specs.Tree as Tree
 use Rattle.json.proofs.Reading.{then, pass}
 use Rattle.fractured_json_rules.specs.ByteTables.{bytes}
 use Rattle.fractured_json_rules.specs.Meaning.{Key, noKey, Keys, keyText, KeyIs, asText, asBack, ValueIs, ValuesAre, MembersAre}
-use Rattle.fractured_json_rules.specs.Verdict.{inTurn, member}
+use Rattle.fractured_json_rules.specs.Verdict.{inTurn, member, keyBy}
 use Rattle.fractured_json_rules.specs.KeyTable.{roomOf, keyOf}
 use Rattle.fractured_json_rules.specs.TreeOf.{keyEnd, steps, endAt}
 use Rattle.fractured_json_rules.specs.Leads.{FirstOf}
-use Rattle.fractured_json_rules.specs.Questions.{textKey, backKey, readKeyBy, readKey, passKey, walk, inner, Found, valueAt, absent, findFrom, findIn}
+use Rattle.fractured_json_rules.specs.Questions.{textKey, backKey, readKey, passKey, walk, inner, Found, valueAt, absent, findFrom, findIn}
 use Rattle.fractured_json_rules.proofs.Keys.{same-text, text-same, first-trans, first-length, first-key, grows, grows-all, grows-members, Inside, inside-at}
-use Rattle.fractured_json_rules.proofs.Readers.{byte-is, index-is}
+use Rattle.fractured_json_rules.proofs.Readers.{byte-is, text-is, key-number-is}
 use Rattle.fractured_json_rules.proofs.Trees.{key-ends, ends}
 use Rattle.fractured_json_rules.proofs.Walk.{walks}
 
@@ -55,20 +55,20 @@ module _ (doc : List ℕ) (all : Keys) (words : List ℕ) (count : ℕ) (table :
   -- ---- keys
 
   pub reads-key : (t : List ℕ) (o : ℕ) (ks : Keys) (e : ℕ) (kz : Keys) → KeyIs doc t o ks e kz → FirstOf kz all → ask (readKey doc words count o) ≡ answers (record { bytes = t; past = e })
-  unfolding readKey readKeyBy textKey backKey
+  unfolding readKey keyBy textKey backKey
   reads-key t o ks e kz (asText x n b s i y f p q) g =
-      rw (p, y .same) (then _ _ tt (byte-is doc o o tt (s .inside)) ∙ rw (s .form-is) (then _ _ tt (index-is doc o x n b tt i) ∙ pass _ _ _ _ tt (le→leb _ _ (y .inside))))
+      rw (p, y .same) (then _ _ tt (byte-is doc o o tt (s .inside)) ∙ rw (s .form-is) (then _ _ tt (key-number-is doc o x n b tt i) ∙ then _ _ tt (text-is doc o _ tt (y .inside))))
   reads-key t o ks e kz (asBack x j s i h y q) g =
       let g′ = rw q at g in
       let less = first-length g′ in
       let c = table .counts in
       let known : j < length all = omega arith in
-      let counted : j < count = omega arith in
+      let under : j < count = omega arith in
       let pair = table .pair j known in
       let fits : keyOf words j .start + keyOf words j .len ≤ length doc = subst (λ (k : Key). k .start + k .len ≤ length doc) (sym pair) (inside-at doc all (table .inside) j known) in
       let text : keyText doc (keyOf words j) ≡ t = ap (keyText doc) (pair ∙ first-key ks all j g′ h) ∙ sym y in
-      then _ _ tt (byte-is doc o o tt (s .inside)) ∙ rw (s .form-is) (then _ _ tt (index-is doc o x j e tt i)
-      ∙ (pass _ _ _ _ tt (lt→ltb _ _ counted) ∙ (pass _ _ _ _ tt (le→leb _ _ (table .roomy)) ∙ (pass _ _ _ _ tt (le→leb _ _ fits) ∙ ap (λ b. answers (record { bytes = b; past = e })) text))))
+      then _ _ tt (byte-is doc o o tt (s .inside)) ∙ rw (s .form-is) (then _ _ tt (key-number-is doc o x j e tt i)
+      ∙ (pass _ _ _ _ tt (lt→ltb _ _ under) ∙ (pass _ _ _ _ tt (le→leb _ _ (table .roomy)) ∙ (pass _ _ _ _ tt (le→leb _ _ fits) ∙ ap (λ b. answers (record { bytes = b; past = e })) text))))
 
   passes-key : (t : List ℕ) (o : ℕ) (ks : Keys) (e : ℕ) (kz : Keys) → KeyIs doc t o ks e kz → FirstOf kz all → ask (passKey doc words count o) ≡ answers e
   unfolding passKey

@@ -11,9 +11,9 @@ use Rattle.json.specs.Bytes.{Bytes, part}
 use Rattle.json.specs.Limits.{deepest, mostKeys}
 use Rattle.json.specs.Reading.{Outcome, halt, done, Asked, ask, answers, refuses}
 use Rattle.json.specs.Tree.{Tree, num, str, arr, obj, Trees, Members, size, sizem, depth, ElementIs, MemberIs, Lacks, NoNumber, NoString, NoArray, NoObject, Subtree}
-use Rattle.json.proofs.Reading.{then, pass, fail, need-yes}
+use Rattle.json.proofs.Reading.{then, stops, pass, fail, need-yes}
 use Rattle.json.proofs.Tree.{element-at, member-at, member-below, subtree-depth}
-use Rattle.fractured_json_rules.specs.Meaning.{noKey, Keys, behindLength, Means}
+use Rattle.fractured_json_rules.specs.Meaning.{noKey, Keys, afterLength, Means}
 use Rattle.fractured_json_rules.specs.Verdict.{checkKey, check, verdict}
 use Rattle.fractured_json_rules.specs.KeyTable.{roomOf, stored, keyOf, checkedBy, checked}
 use Rattle.fractured_json_rules.specs.TreeOf.{keysOf, treeOf, lengthIn, keyEnd}
@@ -31,7 +31,7 @@ use Rattle.fractured_json_rules.proofs.Nodes.{element-node, member-node
 use Rattle.fractured_json_rules.proofs.Readers.{header-is}
 use Rattle.fractured_json_rules.proofs.Walk.{walks}
 use Rattle.fractured_json_rules.proofs.Answers.{Holds, reads-key, walks-value, walks-to-element, walks-to-member, Lookup, hit, miss, finds}
-use Rattle.fractured_json_rules.proofs.Questions.{opening-is, asked, kind-is, number-is, string-is, no-number, no-string, no-array, no-object, array-is, object-is}
+use Rattle.fractured_json_rules.proofs.Questions.{opening-is, asked, kind-is, number-is, string-is, no-number, no-string, no-array, no-object, array-length, object-length}
 
 -- ---- Demand 2: a document is accepted exactly if it keeps the format's rules, with room for its keys in the table lent.
 
@@ -134,7 +134,7 @@ module _ (doc : List ℕ) (t : Tree) (m : Means doc t) {o : ℕ} (l : Leads doc 
   below : (u : Tree) → StandsFor doc (m .keys) o u → (3 ≤ o) × Subtree t u
   below u s =
       let n = Nodes.node doc t m l in
-      (n .behind-header, subst (λ (v : Tree). Subtree t v) (node-one doc (m .keys) o (n .tree) u (n .stands) s) (n .below))
+      (n .after-header, subst (λ (v : Tree). Subtree t v) (node-one doc (m .keys) o (n .tree) u (n .stands) s) (n .below))
 
   pub kind-answer : (u : Tree) → StandsFor doc (m .keys) o u → ask (kind doc o) ≡ answers (kindOf u)
   unfolding kind
@@ -155,17 +155,14 @@ module _ (doc : List ℕ) (t : Tree) (m : Means doc t) {o : ℕ} (l : Leads doc 
   -- the length is the text's, and the text ends where the value does
   pub string-answer : (x : List ℕ) (s : StandsFor doc (m .keys) o (str x))
       → (p : ℕ) × (ask (stringAt doc o) ≡ answers (record { place = p; len = length x })) × (part doc p (length x) ≡ x) × (p + length x ≡ s .past)
-  unfolding stringAt
-  string-answer x s =
-      let (p, e, v, past) = string-is doc x o _ _ _ (s .value) in
-      (p, asked doc (m .opens) o _ (str x) _ _ _ (below (str x) s .0) (s .value) ∙ e, v, past)
+  string-answer x s = string-is doc (m .opens) o (below (str x) s .0) x _ _ _ (s .value)
 
   pub string-bytes : (x : List ℕ) → StandsFor doc (m .keys) o (str x) → stringBytes doc o ≡ x
   string-bytes x s = let (p, e, v, past) = string-answer x s in rw e v
 
   pub string-wrong : (u : Tree) → StandsFor doc (m .keys) o u → NoString u → ask (stringAt doc o) ≡ refuses 21 o
   unfolding stringAt
-  string-wrong u s n = asked doc (m .opens) o _ u _ _ _ (below u s .0) (s .value) ∙ no-string doc u o _ _ _ (s .value) n
+  string-wrong u s n = stops _ _ tt (no-string doc (m .opens) o (below u s .0) u _ _ _ (s .value) n)
 
   pub string-bytes-wrong : (u : Tree) → StandsFor doc (m .keys) o u → NoString u → stringBytes doc o ≡ []
   string-bytes-wrong u s n = rw (string-wrong u s n)
@@ -212,8 +209,8 @@ module _ (doc : List ℕ) (t : Tree) (m : Means doc t) (words : List ℕ) (roomy
           place = elementPlace doc o x i;
           tree = v;
           answered =
-              asked doc (m .opens) o _ (arr ts) _ _ _ b (s .value) ∙ (array-is doc _ ts o _ _ _ (s .value)
-              ∙ (pass _ _ _ _ tt (lt→ltb _ _ h) ∙ walks-to-element doc (m .keys) _ _ holds ts i _ _ _ _ (s .value .3) (s .first) (omega arith) h));
+              then _ _ tt (array-length doc (m .opens) o b ts _ _ _ (s .value))
+              ∙ (pass _ _ _ _ tt (lt→ltb _ _ h) ∙ walks-to-element doc (m .keys) _ _ holds ts i _ _ _ _ (s .value .3) (s .first) (omega arith) h);
           led-to = element o x i l form (omega arith);
           stands = r;
           is-element = is;
@@ -224,13 +221,12 @@ module _ (doc : List ℕ) (t : Tree) (m : Means doc t) (words : List ℕ) (roomy
     unfolding elementAt elementFrom
     element-past ts i s h =
         let (b, sub) = below doc t m l (arr ts) s in
-        asked doc (m .opens) o _ (arr ts) _ _ _ b (s .value) ∙ (array-is doc _ ts o _ _ _ (s .value)
-        ∙ fail _ _ _ _ tt (λ y. let z = ltb→lt i (size ts) y in omega arith))
+        then _ _ tt (array-length doc (m .opens) o b ts _ _ _ (s .value)) ∙ fail _ _ _ _ tt (λ y. let z = ltb→lt i (size ts) y in omega arith)
 
     pub element-wrong : (u : Tree) (i : ℕ) → StandsFor doc (m .keys) o u → NoArray u
         → ask (elementAt doc (checked doc words .words) (checked doc words .count) o i) ≡ refuses 21 o
     unfolding elementAt
-    element-wrong u i s n = asked doc (m .opens) o _ u _ _ _ (below doc t m l u s .0) (s .value) ∙ no-array doc u o _ _ _ (s .value) _ n
+    element-wrong u i s n = stops _ _ tt (no-array doc (m .opens) o (below doc t m l u s .0) u _ _ _ (s .value) n)
 
     -- ---- member j
 
@@ -253,9 +249,9 @@ module _ (doc : List ℕ) (t : Tree) (m : Means doc t) (words : List ℕ) (roomy
           key = k;
           tree = v;
           answered =
-              asked doc (m .opens) o _ (obj ms) _ _ _ b (s .value) ∙ (object-is doc _ ms o _ _ _ (s .value)
+              then _ _ tt (object-length doc (m .opens) o b ms _ _ _ (s .value))
               ∙ (pass _ _ _ _ tt (lt→ltb _ _ h) ∙ (then _ _ tt (walks-to-member doc (m .keys) _ _ holds ms j _ _ _ _ (s .value .3) (s .first) (omega arith) h)
-              ∙ then _ _ tt (then _ _ tt read))));
+              ∙ then _ _ tt (then _ _ tt read)));
           key-read = read;
           led-to = value o x j l form (omega arith);
           stands = member-value doc r;
@@ -267,13 +263,12 @@ module _ (doc : List ℕ) (t : Tree) (m : Means doc t) (words : List ℕ) (roomy
     unfolding memberAt memberFrom
     member-past ms j s h =
         let (b, sub) = below doc t m l (obj ms) s in
-        asked doc (m .opens) o _ (obj ms) _ _ _ b (s .value) ∙ (object-is doc _ ms o _ _ _ (s .value)
-        ∙ fail _ _ _ _ tt (λ y. let z = ltb→lt j (sizem ms) y in omega arith))
+        then _ _ tt (object-length doc (m .opens) o b ms _ _ _ (s .value)) ∙ fail _ _ _ _ tt (λ y. let z = ltb→lt j (sizem ms) y in omega arith)
 
     pub member-wrong : (u : Tree) (j : ℕ) → StandsFor doc (m .keys) o u → NoObject u
         → ask (memberAt doc (checked doc words .words) (checked doc words .count) o j) ≡ refuses 21 o
     unfolding memberAt
-    member-wrong u j s n = asked doc (m .opens) o _ u _ _ _ (below doc t m l u s .0) (s .value) ∙ no-object doc u o _ _ _ (s .value) _ n
+    member-wrong u j s n = stops _ _ tt (no-object doc (m .opens) o (below doc t m l u s .0) u _ _ _ (s .value) n)
 
     -- ---- the first member by key
 
@@ -284,11 +279,11 @@ module _ (doc : List ℕ) (t : Tree) (m : Means doc t) (words : List ℕ) (roomy
         let (b, sub) = below doc t m l (obj ms) s in
         let d = subtree-depth t sub in
         let n = m .nested in
-        let begins = asked doc (m .opens) o _ (obj ms) _ _ _ b (s .value) ∙ object-is doc _ ms o _ _ _ (s .value) in
-        led b sub begins (finds doc (m .keys) _ _ holds x ms (behindLength o (s .value .0)) _ _ _ (s .value .3) (s .first) (omega arith))
+        let begins = then _ _ tt (object-length doc (m .opens) o b ms _ _ _ (s .value)) in
+        led b sub begins (finds doc (m .keys) _ _ holds x ms (afterLength o (s .value .0)) _ _ _ (s .value .3) (s .first) (omega arith))
       where
         led : {r q : Asked Found} → 3 ≤ o → Subtree t (obj ms) → r ≡ q
-            → Lookup doc (m .keys) (checked doc words .words) (checked doc words .count) holds x ms (behindLength o (s .value .0)) q → FirstMemberAnswer doc (m .keys) ms x r
+            → Lookup doc (m .keys) (checked doc words .words) (checked doc words .count) holds x ms (afterLength o (s .value .0)) q → FirstMemberAnswer doc (m .keys) ms x r
         led b sub begins (hit j v is earlier e) =
             let y = s .value .0 in
             let form = s .value .1 .form-is in
@@ -301,4 +296,4 @@ module _ (doc : List ℕ) (t : Tree) (m : Means doc t) (words : List ℕ) (roomy
     pub first-member-wrong : (u : Tree) (x : List ℕ) → StandsFor doc (m .keys) o u → NoObject u
         → ask (firstMember doc (checked doc words .words) (checked doc words .count) o x) ≡ refuses 21 o
     unfolding firstMember
-    first-member-wrong u x s n = asked doc (m .opens) o _ u _ _ _ (below doc t m l u s .0) (s .value) ∙ no-object doc u o _ _ _ (s .value) _ n
+    first-member-wrong u x s n = stops _ _ tt (no-object doc (m .opens) o (below doc t m l u s .0) u _ _ _ (s .value) n)

@@ -14,11 +14,11 @@ use Rattle.json.specs.Reading.{halt, done, follow, _>>=_, need, Asked, ask, ans
 use Rattle.json.specs.Texts.{byNumbers, compareTexts}
 use Rattle.json.proofs.Reading.{stops, pass, fail}
 use Rattle.fractured_json_rules.specs.ByteTables.{formOf, keyFormOf}
-use Rattle.fractured_json_rules.specs.Verdict.{header, byteAt, payload, lengthAt, afterSecond, afterFirst, indexAt, inTurn, member, valueBy, value, met}
-use Rattle.fractured_json_rules.specs.Verdict.{newKey, oldKey, checkKeyBy, checkKey, check, verdict}
+use Rattle.fractured_json_rules.specs.Verdict.{header, byteAt, payload, lengthAt, textAt, afterSecond, afterFirst, keyNumberAt, inTurn, member, valueBy, value, met}
+use Rattle.fractured_json_rules.specs.Verdict.{keyBy, newKey, oldKey, checkKey, check, verdict}
 use Rattle.fractured_json_rules.specs.KeyTable.{roomOf, stored, Checked, checked}
-use Rattle.fractured_json_rules.specs.Questions.{opening, textKey, backKey, readKeyBy, readKey, passKey, endOf, Kind, isNull, isFalse, isTrue, isNumber}
-use Rattle.fractured_json_rules.specs.Questions.{isString, isObject, isArray, kindBy, kind, numberBy, stringBy, stringBytes, arrayBy, objectBy}
+use Rattle.fractured_json_rules.specs.Questions.{opening, typeAt, textKey, backKey, readKey, passKey, endOf, Kind, isNull, isFalse, isTrue, isNumber}
+use Rattle.fractured_json_rules.specs.Questions.{isString, isObject, isArray, kindBy, kind, numberBy, wantedBy, wantedAt, stringBytes}
 use Rattle.fractured_json_rules.specs.Questions.{elementFrom, memberFrom, Found, valueAt, findFrom, findIn, firstMember}
 use Rattle.fractured_json_rules.specs.Questions as Questions
 
@@ -83,7 +83,7 @@ examples =
     example (hex 12 0x464A01A06F0461006F046100) 4 (refuses 39 9) (6 ∷ 1 ∷ []) ∷
     example (hex 7 0x464A016F046100) 1 (refuses 40 4) [] ∷
     example (hex 10 0x464A0170046100046200) 3 (refuses 40 7) (5 ∷ 1 ∷ []) ∷
-    -- 41: behind the length, before the contents
+    -- 41: after the length, before the contents
     example (nested 32 (hex 1 0x9E)) 4 (refuses 41 35) [] ∷
     example (nested 32 (hex 5 0x15FFFFFFFF)) 4 (refuses 41 35) [] ∷
     example (nested 32 (hex 1 0x13)) 4 (refuses 35 35) [] ∷
@@ -107,8 +107,8 @@ examples =
     []
 
 pub check-says : map (λ e. checked (e .doc) (e .lent)) examples ≡ map (λ e. e .says) examples
-unfolding follow _>>=_ need choose number finite byNumbers compareTexts formOf keyFormOf header byteAt payload lengthAt afterSecond afterFirst indexAt
-    inTurn member valueBy value met newKey oldKey checkKeyBy checkKey check roomOf stored
+unfolding follow _>>=_ need choose number finite byNumbers compareTexts formOf keyFormOf header byteAt payload lengthAt textAt afterSecond afterFirst keyNumberAt
+    inTurn member valueBy value keyBy met newKey oldKey checkKey check roomOf stored
 check-says = refl
 
 -- 32: over 65,536 bytes
@@ -254,7 +254,7 @@ lines =
     line (hex 9 0x464A0170046100AB00) [] 0 (memberAt 3 1) (refused 38 7) ∷
     line (hex 5 0x464A016FFF) [] 0 (memberAt 3 0) (refused 36 4) ∷
     line (hex 6 0x464A016F0561) [] 0 (memberAt 3 0) (refused 35 4) ∷
-    -- the first member by key: behind the last key nothing is read
+    -- the first member by key: after the last key nothing is read
     line (hex 6 0x464A016F0461) [] 0 (firstMemberOf 3 (97 ∷ [])) (placeIs 6) ∷
     line (hex 6 0x464A016F0461) [] 0 (firstMemberOf 3 (98 ∷ [])) absent ∷
     line (hex 7 0x464A016F0461FE) [] 0 (firstMemberOf 3 (98 ∷ [])) absent ∷
@@ -270,7 +270,7 @@ lines =
     []
 
 pub questions-say : map (λ l. put (l .doc) (l .table) (l .count) (l .question)) lines ≡ map (λ l. l .says) lines
-unfolding follow _>>=_ need choose number finite byNumbers compareTexts formOf keyFormOf header byteAt payload lengthAt afterSecond afterFirst indexAt
-    inTurn member valueBy value roomOf opening textKey backKey readKeyBy readKey passKey endOf kindBy kind numberBy Questions.numberAt stringBy
-    Questions.stringAt arrayBy objectBy elementFrom Questions.elementAt memberFrom Questions.memberAt findFrom findIn firstMember
+unfolding follow _>>=_ need choose number finite byNumbers compareTexts formOf keyFormOf header byteAt payload lengthAt textAt afterSecond afterFirst keyNumberAt
+    inTurn member valueBy value keyBy roomOf opening typeAt textKey backKey readKey passKey endOf kindBy kind numberBy Questions.numberAt wantedBy wantedAt
+    Questions.stringAt elementFrom Questions.elementAt memberFrom Questions.memberAt findFrom findIn firstMember
 questions-say = refl

@@ -10,11 +10,11 @@ use lib.ListN.{length, getD, drop, length-append, length-drop}
 use lib.Seq.{getD-append-add, getD-drop}
 use Rattle.json.specs.Limits.{deepest}
 use Rattle.json.specs.Reading.{Outcome, halt, done, Reading, follow, _>>=_, need}
-use Rattle.fractured_json_rules.specs.ByteTables.{Len, tiny, behind, Form, fNull, fBool, fInt, fFloat, fTiny, fString, fObject, fArray, fReserved, formOf}
-use Rattle.fractured_json_rules.specs.ByteTables.{Index, inByte, spelled, KeyForm, immediate, backReference, globalIndex, kReserved, keyFormOf}
+use Rattle.fractured_json_rules.specs.ByteTables.{Len, tiny, after, Form, fNull, fBool, fInt, fFloat, fTiny, fString, fObject, fArray, fReserved, formOf}
+use Rattle.fractured_json_rules.specs.ByteTables.{KeyNumber, inByte, spelled, KeyForm, immediate, backReference, globalIndex, kReserved, keyFormOf}
 use Rattle.fractured_json_rules.specs.Meaning.{noKey, Keys}
-use Rattle.fractured_json_rules.specs.Verdict.{header, byteAt, payload, lengthAt, Counted, afterSecond, afterFirst, indexAt, inTurn, member, valueBy}
-use Rattle.fractured_json_rules.specs.Verdict.{value, newKey, oldKey, checkKeyBy, checkKey, check, verdict}
+use Rattle.fractured_json_rules.specs.Verdict.{header, byteAt, payload, lengthAt, textAt, Numeral, afterSecond, afterFirst, keyNumberAt, inTurn, member, valueBy}
+use Rattle.fractured_json_rules.specs.Verdict.{value, keyBy, newKey, oldKey, checkKey, check, verdict}
 use Rattle.fractured_json_rules.specs.KeyTable.{roomOf, pairs, stored, keyOf}
 use Rattle.fractured_json_rules.specs.TreeOf.{keysOf}
 use Rattle.fractured_json_rules.proofs.Readers.{kept-is, keep-is}
@@ -38,7 +38,7 @@ module _ (room : ℕ) where
   keeps-need true n p ks h = h
   keeps-need false n p ks h = h
 
-  -- a test, and what is known behind it
+  -- a test, and what is known after it
   keeps-test : {B : Type 0} (t : Bool) (n p : ℕ) (f : Unit {0} → Reading Keys B) (ks : Keys) → length ks ≤ room → (T t → length (keysOf (f tt ks)) ≤ room)
       → length (keysOf ((need t n p >>= f) ks)) ≤ room
   unfolding _>>=_ follow need
@@ -63,7 +63,11 @@ module _ (room : ℕ) where
     keeps-length : (o : ℕ) (x : Len) → Keeps (lengthAt doc o x)
     unfolding lengthAt
     keeps-length o (tiny n) ks h = h
-    keeps-length o (behind w) ks h = keeps-payload o _ ks h
+    keeps-length o (after w) ks h = keeps-payload o _ ks h
+
+    keeps-text : (o : ℕ) (n : Numeral) → Keeps (textAt doc o n)
+    unfolding textAt
+    keeps-text o n = keeps-then _ _ (keeps-need _ _ _) (λ _ ks h. h)
 
     keeps-second : (o b0 b1 : ℕ) (l : Bool) → Keeps (afterSecond doc o b0 b1 l)
     unfolding afterSecond
@@ -75,27 +79,27 @@ module _ (room : ℕ) where
     keeps-first o b0 true ks h = h
     keeps-first o b0 false ks h = keeps-then _ _ (keeps-byte _ _) (λ b1. keeps-second o b0 b1 (ltb b1 128)) ks h
 
-    keeps-index : (o : ℕ) (x : Index) → Keeps (indexAt doc o x)
-    unfolding indexAt
-    keeps-index o (inByte n) ks h = h
-    keeps-index o spelled ks h = keeps-then _ _ (keeps-byte _ _) (λ b0. keeps-first o b0 (ltb b0 128)) ks h
+    keeps-key-number : (o : ℕ) (x : KeyNumber) → Keeps (keyNumberAt doc o x)
+    unfolding keyNumberAt
+    keeps-key-number o (inByte n) ks h = h
+    keeps-key-number o spelled ks h = keeps-then _ _ (keeps-byte _ _) (λ b0. keeps-first o b0 (ltb b0 128)) ks h
 
     -- the one place where a key is added
-    keeps-new : (o : ℕ) (n : Counted) → Keeps (newKey room doc o n)
+    keeps-new : (o : ℕ) (n : Numeral) → Keeps (newKey room doc o n)
     unfolding newKey
     keeps-new o n ks h =
-        keeps-test _ _ _ _ ks h λ _. rw (kept-is _ ks) (keeps-test _ _ _ _ ks h λ _. keeps-test _ _ _ _ ks h λ t.
-        let spare = ltb→lt (length ks) room t in rw (keep-is _ _ ks, length-append) (omega arith))
+        keeps-then _ _ (keeps-text o n) (λ end kz i. rw (kept-is _ kz) (keeps-test _ _ _ _ kz i λ _. keeps-test _ _ _ _ kz i λ t.
+        let spare = ltb→lt (length kz) room t in rw (keep-is _ _ kz, length-append) (omega arith))) ks h
 
-    keeps-old : (o : ℕ) (n : Counted) → Keeps (oldKey o n)
+    keeps-old : (o : ℕ) (n : Numeral) → Keeps (oldKey o n)
     unfolding oldKey
     keeps-old o n ks h = rw (kept-is _ ks) (keeps-test _ _ _ _ ks h λ _. h)
 
-    keeps-key-by : (o : ℕ) (k : KeyForm) → Keeps (checkKeyBy room doc o k)
-    unfolding checkKeyBy
-    keeps-key-by o (immediate x) ks h = keeps-then _ _ (keeps-index o x) (λ n. keeps-new o n) ks h
-    keeps-key-by o (backReference x) ks h = keeps-then _ _ (keeps-index o x) (λ n. keeps-old o n) ks h
-    keeps-key-by o (globalIndex x) ks h = keeps-then _ _ (keeps-index o x) (λ n kz i. i) ks h
+    keeps-key-by : (o : ℕ) (k : KeyForm) → Keeps (keyBy doc o (newKey room doc o) (oldKey o) k)
+    unfolding keyBy
+    keeps-key-by o (immediate x) ks h = keeps-then _ _ (keeps-key-number o x) (λ n. keeps-new o n) ks h
+    keeps-key-by o (backReference x) ks h = keeps-then _ _ (keeps-key-number o x) (λ n. keeps-old o n) ks h
+    keeps-key-by o (globalIndex x) ks h = keeps-then _ _ (keeps-key-number o x) (λ n kz i. i) ks h
     keeps-key-by o kReserved ks h = h
 
     keeps-key : (o : ℕ) → Keeps (checkKey room doc o)
@@ -111,7 +115,7 @@ module _ (room : ℕ) where
     unfolding member
     keeps-member value k o = keeps-then _ _ (keeps-key o) (λ v. k v)
 
-    keeps-by : (o : ℕ) (array object : ℕ → ℕ → Reading Keys ℕ) → ((n at : ℕ) → Keeps (array n at)) → ((n at : ℕ) → Keeps (object n at))
+    keeps-by : (o : ℕ) (array object : Numeral → Reading Keys ℕ) → ((n : Numeral) → Keeps (array n)) → ((n : Numeral) → Keeps (object n))
         → (f : Form) → Keeps (valueBy doc o array object f)
     unfolding valueBy
     keeps-by o array object ha ho fNull ks h = h
@@ -119,16 +123,16 @@ module _ (room : ℕ) where
     keeps-by o array object ha ho (fTiny b) ks h = h
     keeps-by o array object ha ho (fInt s w) ks h = keeps-then _ _ (keeps-payload o _) (λ _ kz i. i) ks h
     keeps-by o array object ha ho (fFloat f w) ks h = keeps-then _ _ (keeps-payload o _) (λ bits. keeps-then _ _ (keeps-need _ _ _) (λ _ kz i. i)) ks h
-    keeps-by o array object ha ho (fString x) ks h = keeps-then _ _ (keeps-length o x) (λ n. keeps-then _ _ (keeps-need _ _ _) (λ _ kz i. i)) ks h
-    keeps-by o array object ha ho (fObject x) ks h = keeps-then _ _ (keeps-length o x) (λ n. ho n _) ks h
-    keeps-by o array object ha ho (fArray x) ks h = keeps-then _ _ (keeps-length o x) (λ n. ha n _) ks h
+    keeps-by o array object ha ho (fString x) ks h = keeps-then _ _ (keeps-length o x) (keeps-text o) ks h
+    keeps-by o array object ha ho (fObject x) ks h = keeps-then _ _ (keeps-length o x) ho ks h
+    keeps-by o array object ha ho (fArray x) ks h = keeps-then _ _ (keeps-length o x) ha ks h
     keeps-by o array object ha ho fReserved ks h = h
 
     keeps-value : (l o : ℕ) → Keeps (value (checkKey room doc) l doc o)
     unfolding value
-    keeps-value zero o = keeps-then _ _ (keeps-byte _ _) (λ b. keeps-by o _ _ (λ n at ks h. h) (λ n at ks h. h) (formOf b))
+    keeps-value zero o = keeps-then _ _ (keeps-byte _ _) (λ b. keeps-by o _ _ (λ n ks h. h) (λ n ks h. h) (formOf b))
     keeps-value (suc l) o =
-        keeps-then _ _ (keeps-byte _ _) (λ b. keeps-by o _ _ (keeps-turns _ (keeps-value l)) (keeps-turns _ (keeps-member _ (keeps-value l))) (formOf b))
+        keeps-then _ _ (keeps-byte _ _) (λ b. keeps-by o _ _ (λ n. keeps-turns _ (keeps-value l) (n .is) (n .past)) (λ n. keeps-turns _ (keeps-member _ (keeps-value l)) (n .is) (n .past)) (formOf b))
 
     keeps-check : Keeps (check room doc)
     unfolding check

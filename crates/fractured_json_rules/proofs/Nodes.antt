@@ -10,8 +10,8 @@ use Rattle.json.specs.Number.{Float}
 use Rattle.json.specs.Tree.{Tree, null, bool, num, str, arr, obj, Trees, none, more, Members, end, member, depths, depthm, size, sizem, ElementIs, MemberIs, Subtree}
 use Rattle.json.specs.Tree as Tree
 use Rattle.json.proofs.Tree.{element-at, member-at, subtree-depth}
-use Rattle.fractured_json_rules.specs.ByteTables.{Width, Len, tiny, behind, Index, inByte, spelled, Form, fNull, fBool, fInt, fFloat, fTiny, fString, fObject, fArray, formOf}
-use Rattle.fractured_json_rules.specs.Meaning.{behindLength, NumberIs, asTiny, asInt, asFloat, oneByte, twoBytes, threeBytes, IndexIs, Keys, KeyIs}
+use Rattle.fractured_json_rules.specs.ByteTables.{Width, Len, tiny, after, KeyNumber, inByte, spelled, Form, fNull, fBool, fInt, fFloat, fTiny, fString, fObject, fArray, formOf}
+use Rattle.fractured_json_rules.specs.Meaning.{afterLength, NumberIs, asTiny, asInt, asFloat, oneByte, twoBytes, threeBytes, KeyNumberIs, Keys, KeyIs}
 use Rattle.fractured_json_rules.specs.Meaning.{asText, asBack, ValueIs, ValuesAre, MembersAre, Means}
 use Rattle.fractured_json_rules.specs.TreeOf.{lengthIn, keyEnd, steps, endAt}
 use Rattle.fractured_json_rules.specs.Leads.{elementPlace, keyPlace, Leads, root, element, value, FirstOf, StandsFor}
@@ -24,19 +24,19 @@ clash e = omega arith
 module _ (doc : List ℕ) where
   -- ---- reading goes forward
 
-  behind-forward : (o : ℕ) (x : Len) → o ≤ behindLength o x
-  behind-forward o (tiny k) = omega arith
-  behind-forward o (behind w) = omega arith
+  after-forward : (o : ℕ) (x : Len) → o ≤ afterLength o x
+  after-forward o (tiny k) = omega arith
+  after-forward o (after w) = omega arith
 
-  index-forward : (o : ℕ) (x : Index) (n e : ℕ) → IndexIs doc o x n e → o ≤ e
-  index-forward o (inByte k) n e h = omega arith
-  index-forward o spelled n e (oneByte i b p q) = omega arith
-  index-forward o spelled n e (twoBytes i b0 b1 p q) = omega arith
-  index-forward o spelled n e (threeBytes i b0 b1 b2 p q) = omega arith
+  key-number-forward : (o : ℕ) (x : KeyNumber) (n e : ℕ) → KeyNumberIs doc o x n e → o ≤ e
+  key-number-forward o (inByte k) n e h = omega arith
+  key-number-forward o spelled n e (oneByte i b p q) = omega arith
+  key-number-forward o spelled n e (twoBytes i b0 b1 p q) = omega arith
+  key-number-forward o spelled n e (threeBytes i b0 b1 b2 p q) = omega arith
 
   key-forward : {t : List ℕ} {o : ℕ} {ks : Keys} {e : ℕ} {kz : Keys} → KeyIs doc t o ks e kz → o ≤ e
-  key-forward {o = o} (asText x n b s i y f p q) = let r = index-forward o x n b i in omega arith
-  key-forward {o = o} {e = e} (asBack x j s i h y q) = index-forward o x j e i
+  key-forward {o = o} (asText x n b s i y f p q) = let r = key-number-forward o x n b i in omega arith
+  key-forward {o = o} {e = e} (asBack x j s i h y q) = key-number-forward o x j e i
 
   number-forward : {t : Tree} {o e : ℕ} → NumberIs doc t o e → o ≤ e
   number-forward (asTiny b s p q) = omega arith
@@ -48,9 +48,9 @@ module _ (doc : List ℕ) where
     forward null o ks e kz h = omega arith
     forward (bool b) o ks e kz h = omega arith
     forward (num s m) o ks e kz h = number-forward (h .0)
-    forward (str t) o ks e kz h = omega (arith, behind-forward o (h .0), h .5)
-    forward (arr ts) o ks e kz h = omega (arith, behind-forward o (h .0), forward-all ts _ _ _ _ (h .3))
-    forward (obj ms) o ks e kz h = omega (arith, behind-forward o (h .0), forward-members ms _ _ _ _ (h .3))
+    forward (str t) o ks e kz h = omega (arith, after-forward o (h .0), h .5)
+    forward (arr ts) o ks e kz h = omega (arith, after-forward o (h .0), forward-all ts _ _ _ _ (h .3))
+    forward (obj ms) o ks e kz h = omega (arith, after-forward o (h .0), forward-members ms _ _ _ _ (h .3))
 
     forward-all : (ts : Trees) (o : ℕ) (ks : Keys) (e : ℕ) (kz : Keys) → ValuesAre doc ts o ks e kz → o ≤ e
     forward-all none o ks e kz h = omega arith
@@ -62,7 +62,7 @@ module _ (doc : List ℕ) where
 
   -- ---- element i and member j, where they stand; l is at least the nesting of the values
 
-  -- a member: its key at q, and its value behind that
+  -- a member: its key at q, and its value after that
   pub record MemberStands (all : Keys) (q : ℕ) (k : List ℕ) (v : Tree) : Type 0 where
     pub before : Keys
     pub between : Keys
@@ -156,7 +156,7 @@ module _ (doc : List ℕ) where
       pub tree : Tree
       pub stands : StandsFor doc (m .keys) o tree
       pub below : Subtree t tree
-      pub behind-header : 3 ≤ o
+      pub after-header : 3 ≤ o
 
     -- element i of an array that the root leads to
     pub element-node : (o : ℕ) (ts : Trees) (s : StandsFor doc (m .keys) o (arr ts)) (x : Len) (i : ℕ) (v : Tree) → 3 ≤ o → Subtree t (arr ts)
@@ -166,8 +166,8 @@ module _ (doc : List ℕ) where
         let same : h .0 ≡ x = cc (h .1 .form-is, q) in
         let d = subtree-depth t b in
         let n = m .nested in
-        let f = behind-forward o x in
-        let (on, r) = element-stands (m .keys) deepest ts i (behindLength o x) _ _ _ v (rw same at (h .3)) (s .first) (omega arith) el in
+        let f = after-forward o x in
+        let (on, r) = element-stands (m .keys) deepest ts i (afterLength o x) _ _ _ v (rw same at (h .3)) (s .first) (omega arith) el in
         (omega arith, r)
 
     -- member j of an object that the root leads to
@@ -178,8 +178,8 @@ module _ (doc : List ℕ) where
         let same : h .0 ≡ x = cc (h .1 .form-is, q) in
         let d = subtree-depth t b in
         let n = m .nested in
-        let f = behind-forward o x in
-        let (on, r) = member-stands (m .keys) deepest ms j (behindLength o x) _ _ _ k v (rw same at (h .3)) (s .first) (omega arith) el in
+        let f = after-forward o x in
+        let (on, r) = member-stands (m .keys) deepest ms j (afterLength o x) _ _ _ k v (rw same at (h .3)) (s .first) (omega arith) el in
         (omega arith, r)
 
     array-child : (o : ℕ) (u : Tree) (ts : Trees) (x : Len) (i : ℕ) → StandsFor doc (m .keys) o u → Subtree t u → 3 ≤ o → u ≡ arr ts
@@ -191,7 +191,7 @@ module _ (doc : List ℕ) where
         let n : lengthIn doc o x ≡ size ts = rw same at (length-in doc o (s′ .value .0) (size ts) (s′ .value .2)) in
         let (v, el) = element-at ts i (omega arith) in
         let (on, r) = element-node o ts s′ x i v a b′ q el in
-        record { tree = v; stands = r; below = Tree.element ts i b′ el; behind-header = on }
+        record { tree = v; stands = r; below = Tree.element ts i b′ el; after-header = on }
 
     object-child : (o : ℕ) (u : Tree) (ms : Members) (x : Len) (j : ℕ) → StandsFor doc (m .keys) o u → Subtree t u → 3 ≤ o → u ≡ obj ms
         → formOf (getD doc o 0) ≡ fObject x → j < lengthIn doc o x → Node (keyEnd doc (keyPlace doc o x j))
@@ -203,20 +203,20 @@ module _ (doc : List ℕ) where
         let (k, v, el) = member-at ms j (omega arith) in
         let (on, r) = member-node o ms s′ x j k v a b′ q el in
         let f = key-forward (r .key-is) in
-        record { tree = v; stands = member-value r; below = Tree.value ms j k b′ el; behind-header = omega arith }
+        record { tree = v; stands = member-value r; below = Tree.value ms j k b′ el; after-header = omega arith }
 
     pub node : {o : ℕ} → Leads doc o → Node o
     node root = record {
       tree = t;
       stands = record { before = []; past = length doc; met = m .keys; value = m .root; first = first-all (m .keys) };
       below = Tree.whole;
-      behind-header = omega arith;
+      after-header = omega arith;
     }
     node (element o x i l q h) =
         let n = node l in
         let (ts, e) = as-array (n .tree) o _ _ _ x (n .stands .value) q in
-        array-child o (n .tree) ts x i (n .stands) (n .below) (n .behind-header) e q h
+        array-child o (n .tree) ts x i (n .stands) (n .below) (n .after-header) e q h
     node (value o x j l q h) =
         let n = node l in
         let (ms, e) = as-object (n .tree) o _ _ _ x (n .stands .value) q in
-        object-child o (n .tree) ms x j (n .stands) (n .below) (n .behind-header) e q h
+        object-child o (n .tree) ms x j (n .stands) (n .below) (n .after-header) e q h

@@ -12,13 +12,13 @@ use Rattle.json.specs.Tree.{Tree, null, bool, num, str, arr, obj, Trees, Member
 use Rattle.json.proofs.Bytes.{number-small}
 use Rattle.json.proofs.Reading.{then, pass, need-yes}
 use Rattle.fractured_json_rules.specs.ByteTables.{bytes, formOf}
-use Rattle.fractured_json_rules.specs.Meaning.{behindLength, TextIs, NumberIs, asTiny, asInt, asFloat, Keys, ValueIs, Opens}
-use Rattle.fractured_json_rules.specs.Verdict.{byteAt}
-use Rattle.fractured_json_rules.specs.Questions.{opening, kindBy, extended, tinyBits, numberBy, stringBy, arrayBy, objectBy}
+use Rattle.fractured_json_rules.specs.Meaning.{afterLength, TextIs, NumberIs, asTiny, asInt, asFloat, Keys, ValueIs, Opens}
+use Rattle.fractured_json_rules.specs.Verdict.{numeral}
+use Rattle.fractured_json_rules.specs.Questions.{opening, typeAt, kindBy, extended, tinyBits, numberBy, aString, anObject, anArray, wantedBy, wantedAt, stringAt}
 use Rattle.fractured_json_rules.specs.Answers.{kindOf, valueBy, valueOf}
 use Rattle.fractured_json_rules.proofs.Nodes.{value-form}
 use Rattle.fractured_json_rules.proofs.Numbers.{int-value, tiny-value, tiny-byte}
-use Rattle.fractured_json_rules.proofs.Readers.{header-is, byte-is, payload-is, length-is}
+use Rattle.fractured_json_rules.proofs.Readers.{header-is, byte-is, payload-is, length-is, text-is}
 
 module _ (doc : List ℕ) where
   value-inside : (u : Tree) (o : ℕ) (ks : Keys) (e : ℕ) (kz : Keys) → ValueIs doc u o ks e kz → o < length doc
@@ -43,8 +43,9 @@ module _ (doc : List ℕ) where
 
   -- every question but the end begins so
   pub asked : Opens doc → {A : Type 0} (o : ℕ) (by : ℕ → Reading (Unit {0}) A) (u : Tree) (ks : Keys) (e : ℕ) (kz : Keys) → 3 ≤ o → ValueIs doc u o ks e kz
-      → ask (opening doc o >>= λ _. byteAt doc o o >>= by) ≡ ask (by (getD doc o 0))
-  asked h o by u ks e kz b v = then _ _ tt (opening-is h o b) ∙ then _ _ tt (byte-is doc o o tt (value-inside u o ks e kz v))
+      → ask (typeAt doc o >>= by) ≡ ask (by (getD doc o 0))
+  unfolding typeAt
+  asked h o by u ks e kz b v = then _ _ tt (then _ _ tt (opening-is h o b) ∙ byte-is doc o o tt (value-inside u o ks e kz v))
 
   -- ---- its kind
 
@@ -86,54 +87,60 @@ module _ (doc : List ℕ) where
   number-is bs s m o e (asFloat f w st i n p q) =
       (number doc (o + 1) (bytes w), rw (st .form-is) (then _ _ tt (payload-is doc o (bytes w) tt i) ∙ pass _ _ _ _ tt n), rw (st .form-is) (sym p))
 
-  -- ---- its string
+  -- ---- the wrong kind of number
 
-  pub string-is : (t : List ℕ) (o : ℕ) (ks : Keys) (e : ℕ) (kz : Keys) → ValueIs doc (str t) o ks e kz
-      → (p : ℕ) × (ask (stringBy doc o (formOf (getD doc o 0))) ≡ answers (record { place = p; len = length t })) × (part doc p (length t) ≡ t) × (p + length t ≡ e)
-  unfolding stringBy
-  string-is t o ks e kz h =
-      let len = text-length t _ _ (h .4) in (
-        behindLength o (h .0),
-        rw (h .2 .form-is, len) (then _ _ tt (length-is doc o (h .0) (h .1) tt (h .3)) ∙ pass _ _ _ _ tt (le→leb _ _ (h .4 .inside))),
-        rw len (sym (h .4 .same)),
-        rw len (sym (h .5)),
-      )
+  pub no-number : (u : Tree) (o : ℕ) (ks : Keys) (e : ℕ) (kz : Keys) → ValueIs doc u o ks e kz → NoNumber u → ask (numberBy doc o (getD doc o 0) (formOf (getD doc o 0))) ≡ refuses 21 o
+  unfolding numberBy
+  no-number u o ks e kz v n =
+      value-form doc (λ f. ask (numberBy doc o (getD doc o 0) f) ≡ refuses 21 o) u o ks e kz v
+      (λ _. refl) (λ b _. refl) (λ s m q. absurd (n s m q)) (λ t x _. refl) (λ ts x _. refl) (λ ms x _. refl)
 
-  -- ---- the wrong kind
+  -- ---- the length of a string, an array and an object, and the wrong kind
 
-  module _ (u : Tree) (o : ℕ) (ks : Keys) (e : ℕ) (kz : Keys) (v : ValueIs doc u o ks e kz) where
-    pub no-number : NoNumber u → ask (numberBy doc o (getD doc o 0) (formOf (getD doc o 0))) ≡ refuses 21 o
-    unfolding numberBy
-    no-number n =
-        value-form doc (λ f. ask (numberBy doc o (getD doc o 0) f) ≡ refuses 21 o) u o ks e kz v
-        (λ _. refl) (λ b _. refl) (λ s m q. absurd (n s m q)) (λ t x _. refl) (λ ts x _. refl) (λ ms x _. refl)
+  module _ (h : Opens doc) (o : ℕ) (b : 3 ≤ o) where
+    string-length : (t : List ℕ) (ks : Keys) (e : ℕ) (kz : Keys) (v : ValueIs doc (str t) o ks e kz) → ask (wantedAt doc o aString) ≡ answers (numeral (v .1) (afterLength o (v .0)))
+    unfolding wantedAt wantedBy
+    string-length t ks e kz v = asked h o _ (str t) ks e kz b v ∙ rw (v .2 .form-is) (length-is doc o (v .0) (v .1) tt (v .3))
 
-    pub no-string : NoString u → ask (stringBy doc o (formOf (getD doc o 0))) ≡ refuses 21 o
-    unfolding stringBy
-    no-string n =
-        value-form doc (λ f. ask (stringBy doc o f) ≡ refuses 21 o) u o ks e kz v
-        (λ _. refl) (λ b _. refl) (λ s m _. (λ b. refl, λ g w. refl, λ f w. refl)) (λ t x q. absurd (n t q)) (λ ts x _. refl) (λ ms x _. refl)
+    pub array-length : (ts : Trees) (ks : Keys) (e : ℕ) (kz : Keys) (v : ValueIs doc (arr ts) o ks e kz) → ask (wantedAt doc o anArray) ≡ answers (numeral (size ts) (afterLength o (v .0)))
+    unfolding wantedAt wantedBy
+    array-length ts ks e kz v = asked h o _ (arr ts) ks e kz b v ∙ rw (v .1 .form-is) (length-is doc o (v .0) (size ts) tt (v .2))
 
-    pub no-array : {A : Type 0} (rest : ℕ → ℕ → Reading (Unit {0}) A) → NoArray u → ask (arrayBy doc o rest (formOf (getD doc o 0))) ≡ refuses 21 o
-    unfolding arrayBy
-    no-array rest n =
-        value-form doc (λ f. ask (arrayBy doc o rest f) ≡ refuses 21 o) u o ks e kz v
-        (λ _. refl) (λ b _. refl) (λ s m _. (λ b. refl, λ g w. refl, λ f w. refl)) (λ t x _. refl) (λ ts x q. absurd (n ts q)) (λ ms x _. refl)
+    pub object-length : (ms : Members) (ks : Keys) (e : ℕ) (kz : Keys) (v : ValueIs doc (obj ms) o ks e kz) → ask (wantedAt doc o anObject) ≡ answers (numeral (sizem ms) (afterLength o (v .0)))
+    unfolding wantedAt wantedBy
+    object-length ms ks e kz v = asked h o _ (obj ms) ks e kz b v ∙ rw (v .1 .form-is) (length-is doc o (v .0) (sizem ms) tt (v .2))
 
-    pub no-object : {A : Type 0} (rest : ℕ → ℕ → Reading (Unit {0}) A) → NoObject u → ask (objectBy doc o rest (formOf (getD doc o 0))) ≡ refuses 21 o
-    unfolding objectBy
-    no-object rest n =
-        value-form doc (λ f. ask (objectBy doc o rest f) ≡ refuses 21 o) u o ks e kz v
-        (λ _. refl) (λ b _. refl) (λ s m _. (λ b. refl, λ g w. refl, λ f w. refl)) (λ t x _. refl) (λ ts x _. refl) (λ ms x q. absurd (n ms q))
+    module _ (u : Tree) (ks : Keys) (e : ℕ) (kz : Keys) (v : ValueIs doc u o ks e kz) where
+      pub no-string : NoString u → ask (wantedAt doc o aString) ≡ refuses 21 o
+      unfolding wantedAt wantedBy
+      no-string n =
+          asked h o _ u ks e kz b v
+          ∙ value-form doc (λ f. ask (wantedBy doc o f aString) ≡ refuses 21 o) u o ks e kz v
+          (λ _. refl) (λ b _. refl) (λ s m _. (λ b. refl, λ g w. refl, λ f w. refl)) (λ t x q. absurd (n t q)) (λ ts x _. refl) (λ ms x _. refl)
 
-  -- ---- the length of an array and of an object
+      pub no-array : NoArray u → ask (wantedAt doc o anArray) ≡ refuses 21 o
+      unfolding wantedAt wantedBy
+      no-array n =
+          asked h o _ u ks e kz b v
+          ∙ value-form doc (λ f. ask (wantedBy doc o f anArray) ≡ refuses 21 o) u o ks e kz v
+          (λ _. refl) (λ b _. refl) (λ s m _. (λ b. refl, λ g w. refl, λ f w. refl)) (λ t x _. refl) (λ ts x q. absurd (n ts q)) (λ ms x _. refl)
 
-  pub array-is : {A : Type 0} (rest : ℕ → ℕ → Reading (Unit {0}) A) (ts : Trees) (o : ℕ) (ks : Keys) (e : ℕ) (kz : Keys) (v : ValueIs doc (arr ts) o ks e kz)
-      → ask (arrayBy doc o rest (formOf (getD doc o 0))) ≡ ask (rest (size ts) (behindLength o (v .0)))
-  unfolding arrayBy
-  array-is rest ts o ks e kz v = rw (v .1 .form-is) (then _ _ tt (length-is doc o (v .0) (size ts) tt (v .2)))
+      pub no-object : NoObject u → ask (wantedAt doc o anObject) ≡ refuses 21 o
+      unfolding wantedAt wantedBy
+      no-object n =
+          asked h o _ u ks e kz b v
+          ∙ value-form doc (λ f. ask (wantedBy doc o f anObject) ≡ refuses 21 o) u o ks e kz v
+          (λ _. refl) (λ b _. refl) (λ s m _. (λ b. refl, λ g w. refl, λ f w. refl)) (λ t x _. refl) (λ ts x _. refl) (λ ms x q. absurd (n ms q))
 
-  pub object-is : {A : Type 0} (rest : ℕ → ℕ → Reading (Unit {0}) A) (ms : Members) (o : ℕ) (ks : Keys) (e : ℕ) (kz : Keys) (v : ValueIs doc (obj ms) o ks e kz)
-      → ask (objectBy doc o rest (formOf (getD doc o 0))) ≡ ask (rest (sizem ms) (behindLength o (v .0)))
-  unfolding objectBy
-  object-is rest ms o ks e kz v = rw (v .1 .form-is) (then _ _ tt (length-is doc o (v .0) (sizem ms) tt (v .2)))
+    -- ---- its string
+
+    pub string-is : (t : List ℕ) (ks : Keys) (e : ℕ) (kz : Keys) → ValueIs doc (str t) o ks e kz
+        → (p : ℕ) × (ask (stringAt doc o) ≡ answers (record { place = p; len = length t })) × (part doc p (length t) ≡ t) × (p + length t ≡ e)
+    unfolding stringAt
+    string-is t ks e kz v =
+        let len = text-length t _ _ (v .4) in (
+          afterLength o (v .0),
+          rw len (then _ _ tt (string-length t ks e kz v) ∙ then _ _ tt (text-is doc o _ tt (v .4 .inside))),
+          rw len (sym (v .4 .same)),
+          rw len (sym (v .5)),
+        )

@@ -1,4 +1,4 @@
--- The readers of bytes, payloads, lengths and key numbers, for whatever a reading keeps: where a chain that begins with one
+-- The readers of bytes, payloads, lengths, texts and key numbers, for whatever a reading keeps: where a chain that begins with one
 -- is done, the document holds what the meaning asks for; and where it does, the reader answers it and keeps what it kept.
 use Prim.Native.Nat.{ℕ, _+_, _≤_, _<_}
 use mathlib.Core.Bool.{Bool, true, false, not}
@@ -11,10 +11,10 @@ use lib.ListN.{length, getD}
 use Rattle.json.specs.Bytes.{number}
 use Rattle.json.specs.Reading.{Reading, done, answer, kept, keep, _>>=_, follow, need}
 use Rattle.json.proofs.Reading.{halt≢done, done-kept, passed, then, pass, need-yes, assoc}
-use Rattle.fractured_json_rules.specs.ByteTables.{bytes, Len, tiny, behind, Index, inByte, spelled}
-use Rattle.fractured_json_rules.specs.Meaning.{LengthIs, Spelled, oneByte, twoBytes, threeBytes, IndexIs}
+use Rattle.fractured_json_rules.specs.ByteTables.{bytes, Len, tiny, after, KeyNumber, inByte, spelled}
+use Rattle.fractured_json_rules.specs.Meaning.{LengthIs, afterLength, Spelled, oneByte, twoBytes, threeBytes, KeyNumberIs}
 pub use Rattle.fractured_json_rules.specs.Meaning.{Opens}
-use Rattle.fractured_json_rules.specs.Verdict.{header, byteAt, payload, lengthAt, Counted, counted, afterSecond, afterFirst, indexAt}
+use Rattle.fractured_json_rules.specs.Verdict.{header, byteAt, payload, lengthAt, textAt, Numeral, numeral, afterSecond, afterFirst, keyNumberAt}
 
 -- ---- what is kept, read and replaced at the head of a chain
 
@@ -65,20 +65,25 @@ module _ {S B : Type 0} (doc : List ℕ) where
   unfolding byteAt
   byte-step o p f s e = let r = tested (ltb o (length doc)) _ _ (getD doc o 0) f s e in (ltb→lt _ _ (r .0), r .1)
 
-  pub payload-step : (o w : ℕ) (f : ℕ → Reading S B) (s : S) {b : B} {z : S} → (payload doc o w >>= f) s ≡ done b z
-      → (o + 1 + w ≤ length doc) × (f (number doc (o + 1) w) s ≡ done b z)
+  pub payload-step : (o w : ℕ) (f : Numeral → Reading S B) (s : S) {b : B} {z : S} → (payload doc o w >>= f) s ≡ done b z
+      → (o + 1 + w ≤ length doc) × (f (numeral (number doc (o + 1) w) (o + 1 + w)) s ≡ done b z)
   unfolding payload
-  payload-step o w f s e = let r = tested (leb (o + 1 + w) (length doc)) _ _ (number doc (o + 1) w) f s e in (leb→le _ _ (r .0), r .1)
+  payload-step o w f s e = let r = tested (leb (o + 1 + w) (length doc)) _ _ _ f s e in (leb→le _ _ (r .0), r .1)
 
-  pub length-step : (o : ℕ) (x : Len) (f : ℕ → Reading S B) (s : S) {b : B} {z : S} → (lengthAt doc o x >>= f) s ≡ done b z
-      → (n : ℕ) × LengthIs doc o x n × (f n s ≡ done b z)
+  pub length-step : (o : ℕ) (x : Len) (f : Numeral → Reading S B) (s : S) {b : B} {z : S} → (lengthAt doc o x >>= f) s ≡ done b z
+      → (n : ℕ) × LengthIs doc o x n × (f (numeral n (afterLength o x)) s ≡ done b z)
   unfolding lengthAt
-  length-step o (tiny n) f s e = (n, refl, answered n f s e)
-  length-step o (behind w) f s e = let r = payload-step o (bytes w) f s e in (number doc (o + 1) (bytes w), (r .0, refl), r .1)
+  length-step o (tiny n) f s e = (n, refl, answered _ f s e)
+  length-step o (after w) f s e = let r = payload-step o (bytes w) f s e in (number doc (o + 1) (bytes w), (r .0, refl), r .1)
+
+  pub text-step : (o : ℕ) (n : Numeral) (f : ℕ → Reading S B) (s : S) {b : B} {z : S} → (textAt doc o n >>= f) s ≡ done b z
+      → (n .past + n .is ≤ length doc) × (f (n .past + n .is) s ≡ done b z)
+  unfolding textAt
+  text-step o n f s e = let r = tested (leb (n .past + n .is) (length doc)) _ _ _ f s e in (leb→le _ _ (r .0), r .1)
 
   second-step : (o : ℕ) (l : Bool) → (T l → getD doc (o + 2) 0 < 128) → (T (not l) → 128 ≤ getD doc (o + 2) 0) → o + 2 < length doc → 128 ≤ getD doc (o + 1) 0
-      → (f : Counted → Reading S B) (s : S) {b : B} {z : S} → (afterSecond doc o (getD doc (o + 1) 0) (getD doc (o + 2) 0) l >>= f) s ≡ done b z
-      → (n : ℕ) × (e : ℕ) × Spelled doc o n e × (f (counted n e) s ≡ done b z)
+      → (f : Numeral → Reading S B) (s : S) {b : B} {z : S} → (afterSecond doc o (getD doc (o + 1) 0) (getD doc (o + 2) 0) l >>= f) s ≡ done b z
+      → (n : ℕ) × (e : ℕ) × Spelled doc o n e × (f (numeral n e) s ≡ done b z)
   unfolding afterSecond
   second-step o true p q i h f s e = (_, _, twoBytes i h (p tt) refl refl, answered _ f s e)
   second-step o false p q i h f s e =
@@ -87,19 +92,19 @@ module _ {S B : Type 0} (doc : List ℕ) where
       (_, _, threeBytes (r .0) h (q tt) (leb→le _ _ (t .0)) refl refl, t .1)
 
   first-step : (o : ℕ) (l : Bool) → (T l → getD doc (o + 1) 0 < 128) → (T (not l) → 128 ≤ getD doc (o + 1) 0) → o + 1 < length doc
-      → (f : Counted → Reading S B) (s : S) {b : B} {z : S} → (afterFirst doc o (getD doc (o + 1) 0) l >>= f) s ≡ done b z
-      → (n : ℕ) × (e : ℕ) × Spelled doc o n e × (f (counted n e) s ≡ done b z)
+      → (f : Numeral → Reading S B) (s : S) {b : B} {z : S} → (afterFirst doc o (getD doc (o + 1) 0) l >>= f) s ≡ done b z
+      → (n : ℕ) × (e : ℕ) × Spelled doc o n e × (f (numeral n e) s ≡ done b z)
   unfolding afterFirst
   first-step o true p q i f s e = (_, _, oneByte i (p tt) refl refl, answered _ f s e)
   first-step o false p q i f s e =
       let r = byte-step (o + 2) _ _ s (along _ _ f s e) in
       second-step o (ltb (getD doc (o + 2) 0) 128) (ltb→lt _ _) (nltb→le _ _) (r .0) (q tt) f s (r .1)
 
-  pub index-step : (o : ℕ) (x : Index) (f : Counted → Reading S B) (s : S) {b : B} {z : S} → (indexAt doc o x >>= f) s ≡ done b z
-      → (n : ℕ) × (e : ℕ) × IndexIs doc o x n e × (f (counted n e) s ≡ done b z)
-  unfolding indexAt
-  index-step o (inByte n) f s e = (n, o + 1, (refl, refl), answered _ f s e)
-  index-step o spelled f s e =
+  pub key-number-step : (o : ℕ) (x : KeyNumber) (f : Numeral → Reading S B) (s : S) {b : B} {z : S} → (keyNumberAt doc o x >>= f) s ≡ done b z
+      → (n : ℕ) × (e : ℕ) × KeyNumberIs doc o x n e × (f (numeral n e) s ≡ done b z)
+  unfolding keyNumberAt
+  key-number-step o (inByte n) f s e = (n, o + 1, (refl, refl), answered _ f s e)
+  key-number-step o spelled f s e =
       let r = byte-step (o + 1) _ _ s (along _ _ f s e) in
       first-step o (ltb (getD doc (o + 1) 0) 128) (ltb→lt _ _) (nltb→le _ _) (r .0) f s (r .1)
 
@@ -116,17 +121,21 @@ module _ {S : Type 0} (doc : List ℕ) where
   unfolding byteAt
   byte-is o p s h = pass _ _ _ _ s (lt→ltb _ _ h)
 
-  pub payload-is : (o w : ℕ) (s : S) → o + 1 + w ≤ length doc → payload doc o w s ≡ done (number doc (o + 1) w) s
+  pub payload-is : (o w : ℕ) (s : S) → o + 1 + w ≤ length doc → payload doc o w s ≡ done (numeral (number doc (o + 1) w) (o + 1 + w)) s
   unfolding payload
   payload-is o w s h = pass _ _ _ _ s (le→leb _ _ h)
 
-  pub length-is : (o : ℕ) (x : Len) (n : ℕ) (s : S) → LengthIs doc o x n → lengthAt doc o x s ≡ done n s
+  pub length-is : (o : ℕ) (x : Len) (n : ℕ) (s : S) → LengthIs doc o x n → lengthAt doc o x s ≡ done (numeral n (afterLength o x)) s
   unfolding lengthAt
   length-is o (tiny k) n s h = rw h
-  length-is o (behind w) n s h = rw (h .1) (payload-is o (bytes w) s (h .0))
+  length-is o (after w) n s h = rw (h .1) (payload-is o (bytes w) s (h .0))
 
-  spelled-is : (o n e : ℕ) (s : S) → Spelled doc o n e → indexAt doc o spelled s ≡ done (counted n e) s
-  unfolding indexAt afterFirst afterSecond
+  pub text-is : (o : ℕ) (n : Numeral) (s : S) → n .past + n .is ≤ length doc → textAt doc o n s ≡ done (n .past + n .is) s
+  unfolding textAt
+  text-is o n s h = pass _ _ _ _ s (le→leb _ _ h)
+
+  spelled-is : (o n e : ℕ) (s : S) → Spelled doc o n e → keyNumberAt doc o spelled s ≡ done (numeral n e) s
+  unfolding keyNumberAt afterFirst afterSecond
   spelled-is o n e s (oneByte i b p q) =
       then _ _ s (byte-is (o + 1) _ s i) ∙ rw (lt-ltb _ _ b, p, q)
   spelled-is o n e s (twoBytes i b0 b1 p q) =
@@ -138,7 +147,7 @@ module _ {S : Type 0} (doc : List ℕ) where
       then _ _ s (byte-is (o + 1) _ s j) ∙ rw (le-ltb _ _ b0) (then _ _ s (byte-is (o + 2) _ s k) ∙ rw (le-ltb _ _ b1)
       (then _ _ s (byte-is (o + 3) _ s i) ∙ rw (p, q) (pass _ _ _ _ s (le→leb _ _ b2))))
 
-  pub index-is : (o : ℕ) (x : Index) (n e : ℕ) (s : S) → IndexIs doc o x n e → indexAt doc o x s ≡ done (counted n e) s
-  unfolding indexAt
-  index-is o (inByte k) n e s h = rw (h .0, h .1)
-  index-is o spelled n e s h = spelled-is o n e s h
+  pub key-number-is : (o : ℕ) (x : KeyNumber) (n e : ℕ) (s : S) → KeyNumberIs doc o x n e → keyNumberAt doc o x s ≡ done (numeral n e) s
+  unfolding keyNumberAt
+  key-number-is o (inByte k) n e s h = rw (h .0, h .1)
+  key-number-is o spelled n e s h = spelled-is o n e s h

@@ -17,11 +17,11 @@ use Rattle.json.specs.Tree as Tree
 use Rattle.json.proofs.Reading.{halt≢done, done-answer, done-kept, step, passed}
 use Rattle.fractured_json_rules.specs.ByteTables.{Width, bytes, Form, fNull, fBool, fInt, fFloat, fTiny, fString, fObject, fArray, fReserved, formOf}
 use Rattle.fractured_json_rules.specs.ByteTables.{KeyForm, immediate, backReference, globalIndex, kReserved, keyFormOf}
-use Rattle.fractured_json_rules.specs.Meaning.{behindLength, intTree, tinyTree, NumberIs, asTiny, asInt, asFloat, noKey, Keys, keyText, KeyIs, asText}
+use Rattle.fractured_json_rules.specs.Meaning.{afterLength, intTree, tinyTree, NumberIs, asTiny, asInt, asFloat, noKey, Keys, keyText, KeyIs, asText}
 use Rattle.fractured_json_rules.specs.Meaning.{asBack, ValueIs, ValuesAre, MembersAre, Opens, Means}
-use Rattle.fractured_json_rules.specs.Verdict.{inTurn, member, valueBy, value, newKey, oldKey, checkKeyBy, checkKey, check, verdict}
+use Rattle.fractured_json_rules.specs.Verdict.{Numeral, numeral, textAt, inTurn, member, valueBy, value, keyBy, newKey, oldKey, checkKey, check, verdict}
 use Rattle.fractured_json_rules.proofs.Keys.{met-fresh}
-use Rattle.fractured_json_rules.proofs.Readers.{kept-is, keep-is, header-step, last-test, byte-step, payload-step, length-step, index-step}
+use Rattle.fractured_json_rules.proofs.Readers.{kept-is, keep-is, header-step, last-test, byte-step, payload-step, length-step, text-step, key-number-step}
 
 record FoundKey (doc : List ℕ) (o : ℕ) (ks : Keys) (e : ℕ) (kz : Keys) : Type 0 where
   text : List ℕ
@@ -70,29 +70,29 @@ float-number f n = (_, _, refl)
 module _ (room : ℕ) (doc : List ℕ) where
   -- ---- keys
 
-  key-by : (o : ℕ) (ks : Keys) {e : ℕ} {kz : Keys} → o < length doc → (k : KeyForm) → keyFormOf (getD doc o 0) ≡ k → checkKeyBy room doc o k ks ≡ done e kz
+  key-by : (o : ℕ) (ks : Keys) {e : ℕ} {kz : Keys} → o < length doc → (k : KeyForm) → keyFormOf (getD doc o 0) ≡ k → keyBy doc o (newKey room doc o) (oldKey o) k ks ≡ done e kz
       → FoundKey doc o ks e kz
-  unfolding checkKeyBy newKey oldKey
+  unfolding keyBy newKey oldKey
   key-by o ks i (immediate x) form e =
-      let (n, b, ix, e0) = index-step doc o x _ ks e in
-      let s1 = passed _ _ _ _ ks e0 in
-      let s2 = passed _ _ _ _ ks (sym (kept-is _ ks) ∙ s1 .rest) in
+      let (n, b, ix, e0) = key-number-step doc o x _ ks e in
+      let (fits, e1) = text-step doc o (numeral n b) _ ks e0 in
+      let s2 = passed _ _ _ _ ks (sym (kept-is _ ks) ∙ e1) in
       let s3 = passed _ _ _ _ ks (s2 .rest) in
       let last = sym (keep-is _ _ ks) ∙ s3 .rest in
       record {
         text = part doc b n;
-        here = asText x n b (record { inside = i; form-is = form }) ix (record { inside = leb→le _ _ (s1 .test); same = refl }) (met-fresh doc _ ks (s2 .test))
+        here = asText x n b (record { inside = i; form-is = form }) ix (record { inside = fits; same = refl }) (met-fresh doc _ ks (s2 .test))
             (sym (done-answer last)) (sym (done-kept last));
       }
   key-by o ks i (backReference x) form e =
-      let (n, b, ix, e0) = index-step doc o x _ ks e in
+      let (n, b, ix, e0) = key-number-step doc o x _ ks e in
       let s1 = passed _ _ _ _ ks (sym (kept-is _ ks) ∙ e0) in
       let past = done-answer (s1 .rest) in
       record {
         text = keyText doc (getD ks n noKey);
         here = asBack x n (record { inside = i; form-is = form }) (rw past at ix) (ltb→lt _ _ (s1 .test)) refl (sym (done-kept (s1 .rest)));
       }
-  key-by o ks i (globalIndex x) form e = let (n, b, ix, e0) = index-step doc o x _ ks e in absurd (halt≢done e0)
+  key-by o ks i (globalIndex x) form e = let (n, b, ix, e0) = key-number-step doc o x _ ks e in absurd (halt≢done e0)
   key-by o ks i kReserved form e = absurd (halt≢done e)
 
   key-sound : (o : ℕ) (ks : Keys) {e : ℕ} {kz : Keys} → checkKey room doc o ks ≡ done e kz → FoundKey doc o ks e kz
@@ -133,11 +133,11 @@ module _ (room : ℕ) (doc : List ℕ) where
   number-found : (l o : ℕ) (ks : Keys) {e : ℕ} {kz : Keys} (t : Tree) → NumberIs doc t o e → IsNumber t → kz ≡ ks → FoundValue doc l o ks e kz
   number-found l o ks t h n q = record { tree = num (n .0) (n .1); here = (rw (n .2) at h, q); shallow = omega arith }
 
-  value-by : (l o : ℕ) (ks : Keys) {e : ℕ} {kz : Keys} (array object : ℕ → ℕ → Reading Keys ℕ)
-      → ((n at : ℕ) → array n at ks ≡ done e kz → (m : ℕ) × (l ≡ suc m) × FoundValues doc m n at ks e kz)
-      → ((n at : ℕ) → object n at ks ≡ done e kz → (m : ℕ) × (l ≡ suc m) × FoundMembers doc m n at ks e kz)
+  value-by : (l o : ℕ) (ks : Keys) {e : ℕ} {kz : Keys} (array object : Numeral → Reading Keys ℕ)
+      → ((n : Numeral) → array n ks ≡ done e kz → (m : ℕ) × (l ≡ suc m) × FoundValues doc m (n .is) (n .past) ks e kz)
+      → ((n : Numeral) → object n ks ≡ done e kz → (m : ℕ) × (l ≡ suc m) × FoundMembers doc m (n .is) (n .past) ks e kz)
       → o < length doc → (k : Form) → formOf (getD doc o 0) ≡ k → valueBy doc o array object k ks ≡ done e kz → FoundValue doc l o ks e kz
-  unfolding valueBy
+  unfolding valueBy textAt
   value-by l o ks array object ha ho i fNull form e =
       record { tree = null; here = (record { inside = i; form-is = form }, sym (done-answer e), sym (done-kept e)); shallow = omega arith }
   value-by l o ks array object ha ho i (fBool b) form e =
@@ -155,17 +155,17 @@ module _ (room : ℕ) (doc : List ℕ) where
       let (n, len, e0) = length-step doc o x _ ks e in
       let s = passed _ _ _ _ ks e0 in
       record {
-        tree = str (part doc (behindLength o x) n);
+        tree = str (part doc (afterLength o x) n);
         here = (x, n, record { inside = i; form-is = form }, len, record { inside = leb→le _ _ (s .test); same = refl }, sym (done-answer (s .rest)), sym (done-kept (s .rest)));
         shallow = omega arith;
       }
   value-by l o ks array object ha ho i (fObject x) form e =
       let (n, len, e0) = length-step doc o x _ ks e in
-      let (m, le, f) = ho n (behindLength o x) e0 in
+      let (m, le, f) = ho (numeral n (afterLength o x)) e0 in
       record { tree = obj (f .members); here = (x, record { inside = i; form-is = form }, rw (f .count) len, f .here); shallow = rw le (omega arith) }
   value-by l o ks array object ha ho i (fArray x) form e =
       let (n, len, e0) = length-step doc o x _ ks e in
-      let (m, le, f) = ha n (behindLength o x) e0 in
+      let (m, le, f) = ha (numeral n (afterLength o x)) e0 in
       record { tree = arr (f .trees); here = (x, record { inside = i; form-is = form }, rw (f .count) len, f .here); shallow = rw le (omega arith) }
   value-by l o ks array object ha ho i fReserved form e = absurd (halt≢done e)
 
@@ -173,12 +173,12 @@ module _ (room : ℕ) (doc : List ℕ) where
   unfolding value
   value-sound zero o ks e kz h =
       let (i, r) = byte-step doc o o _ ks h in
-      value-by zero o ks _ _ (λ n at q. absurd (halt≢done q)) (λ n at q. absurd (halt≢done q)) i _ refl r
+      value-by zero o ks _ _ (λ n q. absurd (halt≢done q)) (λ n q. absurd (halt≢done q)) i _ refl r
   value-sound (suc l) o ks e kz h =
       let (i, r) = byte-step doc o o _ ks h in
       value-by (suc l) o ks _ _
-      (λ n at q. (l, refl, values-sound (value (checkKey room doc) l doc) l (value-sound l) n at ks q))
-      (λ n at q. (l, refl, members-sound (value (checkKey room doc) l doc) l (value-sound l) n at ks q))
+      (λ n q. (l, refl, values-sound (value (checkKey room doc) l doc) l (value-sound l) (n .is) (n .past) ks q))
+      (λ n q. (l, refl, members-sound (value (checkKey room doc) l doc) l (value-sound l) (n .is) (n .past) ks q))
       i _ refl r
 
   -- ---- the document

@@ -7,11 +7,11 @@ use native.Mathlib.Omega.{arith}
 use borrow.Author.Tests.{lt-ltb, le-ltb}
 use Rattle.json.specs.Choose.{choose}
 use Rattle.json.specs.Tree.{Tree, null, bool, num, str, arr, obj, Trees, none, more, Members, end, member, depth, depths, depthm, size, sizem}
-use Rattle.fractured_json_rules.specs.ByteTables.{Len, tiny, behind, Form, fNull, fBool, fInt, fFloat, fTiny, fString, Index, inByte, spelled}
-use Rattle.fractured_json_rules.specs.Meaning.{Starts, LengthIs, behindLength, NumberIs, asTiny, asInt, asFloat, oneByte, twoBytes, threeBytes, IndexIs}
+use Rattle.fractured_json_rules.specs.ByteTables.{Len, tiny, after, Form, fNull, fBool, fInt, fFloat, fTiny, fString, KeyNumber, inByte, spelled}
+use Rattle.fractured_json_rules.specs.Meaning.{Starts, LengthIs, afterLength, NumberIs, asTiny, asInt, asFloat, oneByte, twoBytes, threeBytes, KeyNumberIs}
 use Rattle.fractured_json_rules.specs.Meaning.{Keys, KeyIs, asText, asBack, ValueIs, ValuesAre, MembersAre}
-use Rattle.fractured_json_rules.specs.Verdict.{counted}
-use Rattle.fractured_json_rules.specs.TreeOf.{lengthIn, spelledIn, indexIn, keyEnd, steps, endBy, endAt, keyTextAt, valueTrees, memberTrees, treeBy, treeAt}
+use Rattle.fractured_json_rules.specs.Verdict.{numeral}
+use Rattle.fractured_json_rules.specs.TreeOf.{lengthIn, spelledIn, keyNumberIn, keyEnd, steps, endBy, endAt, keyTextAt, valueTrees, memberTrees, treeBy, treeAt}
 use Rattle.fractured_json_rules.specs.Leads.{FirstOf}
 use Rattle.fractured_json_rules.proofs.Keys.{first-trans, first-key, grows, grows-all, grows-members}
 
@@ -20,24 +20,24 @@ module _ (doc : List ℕ) where
 
   pub length-in : (o : ℕ) (x : Len) (n : ℕ) → LengthIs doc o x n → lengthIn doc o x ≡ n
   length-in o (tiny k) n h = sym h
-  length-in o (behind w) n h = sym (h .1)
+  length-in o (after w) n h = sym (h .1)
 
-  index-in : (o : ℕ) (x : Index) (n e : ℕ) → IndexIs doc o x n e → indexIn doc o x ≡ counted n e
+  key-number-in : (o : ℕ) (x : KeyNumber) (n e : ℕ) → KeyNumberIs doc o x n e → keyNumberIn doc o x ≡ numeral n e
   unfolding spelledIn choose
-  index-in o (inByte k) n e h = rw (h .0, h .1)
-  index-in o spelled n e (oneByte i b p q) = rw (lt-ltb _ _ b, p, q)
-  index-in o spelled n e (twoBytes i b0 b1 p q) = rw (le-ltb _ _ b0, lt-ltb _ _ b1, p, q)
-  index-in o spelled n e (threeBytes i b0 b1 b2 p q) = rw (le-ltb _ _ b0, le-ltb _ _ b1, p, q)
+  key-number-in o (inByte k) n e h = rw (h .0, h .1)
+  key-number-in o spelled n e (oneByte i b p q) = rw (lt-ltb _ _ b, p, q)
+  key-number-in o spelled n e (twoBytes i b0 b1 p q) = rw (le-ltb _ _ b0, lt-ltb _ _ b1, p, q)
+  key-number-in o spelled n e (threeBytes i b0 b1 b2 p q) = rw (le-ltb _ _ b0, le-ltb _ _ b1, p, q)
 
   pub key-ends : (t : List ℕ) (o : ℕ) (ks : Keys) (e : ℕ) (kz : Keys) → KeyIs doc t o ks e kz → keyEnd doc o ≡ e
   unfolding keyEnd
-  key-ends t o ks e kz (asText x n b s i y f p q) = rw (s .form-is, index-in o x n b i) (sym p)
-  key-ends t o ks e kz (asBack x j s i h y q) = rw (s .form-is) (ap (λ c. c .past) (index-in o x j e i))
+  key-ends t o ks e kz (asText x n b s i y f p q) = rw (s .form-is, key-number-in o x n b i) (sym p)
+  key-ends t o ks e kz (asBack x j s i h y q) = rw (s .form-is) (ap (λ c. c .past) (key-number-in o x j e i))
 
   key-text : (all : Keys) (t : List ℕ) (o : ℕ) (ks : Keys) (e : ℕ) (kz : Keys) → KeyIs doc t o ks e kz → FirstOf kz all → keyTextAt doc all o ≡ t
   unfolding keyTextAt
-  key-text all t o ks e kz (asText x n b s i y f p q) g = rw (s .form-is, index-in o x n b i) (sym (y .same))
-  key-text all t o ks e kz (asBack x j s i h y q) g = rw (s .form-is, index-in o x j e i, first-key ks all j (rw q at g) h) (sym y)
+  key-text all t o ks e kz (asText x n b s i y f p q) g = rw (s .form-is, key-number-in o x n b i) (sym (y .same))
+  key-text all t o ks e kz (asBack x j s i h y q) g = rw (s .form-is, key-number-in o x j e i, first-key ks all j (rw q at g) h) (sym y)
 
   -- ---- ends
 
@@ -61,9 +61,9 @@ module _ (doc : List ℕ) where
     ends (num s m) l o ks e kz h d = number-ends (num s m) l o e (h .0)
     ends (str t) l o ks e kz h d = end-plain l o (fString (h .0)) e (h .2) (λ inner. rw (length-in o (h .0) (h .1) (h .3)) (sym (h .5)))
     ends (arr ts) zero o ks e kz h d = absurd (omega arith)
-    ends (arr ts) (suc l) o ks e kz h d = rw (h .1 .form-is, length-in o (h .0) (size ts) (h .2)) (ends-all ts l (behindLength o (h .0)) ks e kz (h .3) (omega arith))
+    ends (arr ts) (suc l) o ks e kz h d = rw (h .1 .form-is, length-in o (h .0) (size ts) (h .2)) (ends-all ts l (afterLength o (h .0)) ks e kz (h .3) (omega arith))
     ends (obj ms) zero o ks e kz h d = absurd (omega arith)
-    ends (obj ms) (suc l) o ks e kz h d = rw (h .1 .form-is, length-in o (h .0) (sizem ms) (h .2)) (ends-members ms l (behindLength o (h .0)) ks e kz (h .3) (omega arith))
+    ends (obj ms) (suc l) o ks e kz h d = rw (h .1 .form-is, length-in o (h .0) (sizem ms) (h .2)) (ends-members ms l (afterLength o (h .0)) ks e kz (h .3) (omega arith))
 
     ends-all : (ts : Trees) (l o : ℕ) (ks : Keys) (e : ℕ) (kz : Keys) → ValuesAre doc ts o ks e kz → depths ts ≤ l → steps (endAt l doc) (size ts) o ≡ e
     ends-all none l o ks e kz h d = sym (h .0)
@@ -101,10 +101,10 @@ module _ (doc : List ℕ) where
           tree-plain l o (fString (h .0)) (str t) (h .2) (λ tree past. rw (length-in o (h .0) (h .1) (h .3)) (ap str (sym (h .4 .same))))
       tree-at (arr ts) zero o ks e kz h g d = absurd (omega arith)
       tree-at (arr ts) (suc l) o ks e kz h g d =
-          rw (h .1 .form-is, length-in o (h .0) (size ts) (h .2)) (ap arr (trees-at ts l (behindLength o (h .0)) ks e kz (h .3) g (omega arith)))
+          rw (h .1 .form-is, length-in o (h .0) (size ts) (h .2)) (ap arr (trees-at ts l (afterLength o (h .0)) ks e kz (h .3) g (omega arith)))
       tree-at (obj ms) zero o ks e kz h g d = absurd (omega arith)
       tree-at (obj ms) (suc l) o ks e kz h g d =
-          rw (h .1 .form-is, length-in o (h .0) (sizem ms) (h .2)) (ap obj (members-at ms l (behindLength o (h .0)) ks e kz (h .3) g (omega arith)))
+          rw (h .1 .form-is, length-in o (h .0) (sizem ms) (h .2)) (ap obj (members-at ms l (afterLength o (h .0)) ks e kz (h .3) g (omega arith)))
 
       trees-at : (ts : Trees) (l o : ℕ) (ks : Keys) (e : ℕ) (kz : Keys) → ValuesAre doc ts o ks e kz → FirstOf kz all → depths ts ≤ l
           → valueTrees (treeAt l doc all) (endAt l doc) (size ts) o ≡ ts

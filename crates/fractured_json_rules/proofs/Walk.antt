@@ -10,17 +10,17 @@ use Rattle.json.specs.Tree.{Tree, null, bool, num, str, arr, obj, Trees, none, 
 use Rattle.json.specs.Tree as Tree
 use Rattle.json.proofs.Reading.{then, pass}
 use Rattle.fractured_json_rules.specs.ByteTables.{bytes, Form, fNull, fBool, fInt, fFloat, fTiny, fString}
-use Rattle.fractured_json_rules.specs.Meaning.{Starts, behindLength, NumberIs, asTiny, asInt, asFloat, Keys, KeyIs, ValueIs, ValuesAre, MembersAre}
-use Rattle.fractured_json_rules.specs.Verdict.{inTurn, member, valueBy, value}
+use Rattle.fractured_json_rules.specs.Meaning.{Starts, afterLength, NumberIs, asTiny, asInt, asFloat, Keys, KeyIs, ValueIs, ValuesAre, MembersAre}
+use Rattle.fractured_json_rules.specs.Verdict.{Numeral, inTurn, member, valueBy, value}
 use Rattle.fractured_json_rules.specs.Leads.{FirstOf}
 use Rattle.fractured_json_rules.proofs.Keys.{first-trans, grows, grows-all, grows-members}
-use Rattle.fractured_json_rules.proofs.Readers.{byte-is, payload-is, length-is}
+use Rattle.fractured_json_rules.proofs.Readers.{byte-is, payload-is, length-is, text-is}
 
 module _ {S : Type 0} (doc : List ℕ) (key : ℕ → Reading S ℕ) (tab : Keys) (at : Keys → S)
     (reads : (t : List ℕ) (o : ℕ) (ks : Keys) (e : ℕ) (kz : Keys) → KeyIs doc t o ks e kz → FirstOf kz tab → key o (at ks) ≡ done e (at kz))
   where
     -- a value of a form whose reading does not turn on the levels
-    plain : (l o : ℕ) (s : S) (k : Form) (r : Outcome S ℕ) → Starts doc o k → ((array object : ℕ → ℕ → Reading S ℕ) → valueBy doc o array object k s ≡ r) → value key l doc o s ≡ r
+    plain : (l o : ℕ) (s : S) (k : Form) (r : Outcome S ℕ) → Starts doc o k → ((array object : Numeral → Reading S ℕ) → valueBy doc o array object k s ≡ r) → value key l doc o s ≡ r
     unfolding value
     plain zero o s k r h by = then _ _ s (byte-is doc o o s (h .inside)) ∙ rw (h .form-is) (by _ _)
     plain (suc l) o s k r h by = then _ _ s (byte-is doc o o s (h .inside)) ∙ rw (h .form-is) (by _ _)
@@ -41,15 +41,15 @@ module _ {S : Type 0} (doc : List ℕ) (key : ℕ → Reading S ℕ) (tab : Keys
       walks (num s m) l o ks e kz h g d = rw (h .1) (number-walks (num s m) l o (at ks) e (h .0))
       walks (str t) l o ks e kz h g d =
           rw (h .5, h .6) (plain l o (at ks) (fString (h .0)) _ (h .2) (λ array object.
-          then _ _ (at ks) (length-is doc o (h .0) (h .1) (at ks) (h .3)) ∙ pass _ _ _ _ (at ks) (le→leb _ _ (h .4 .inside))))
+          then _ _ (at ks) (length-is doc o (h .0) (h .1) (at ks) (h .3)) ∙ text-is doc o _ (at ks) (h .4 .inside)))
       walks (arr ts) zero o ks e kz h g d = absurd (omega arith)
       walks (arr ts) (suc l) o ks e kz h g d =
           then _ _ (at ks) (byte-is doc o o (at ks) (h .1 .inside)) ∙ rw (h .1 .form-is)
-          (then _ _ (at ks) (length-is doc o (h .0) (size ts) (at ks) (h .2)) ∙ walks-all ts l (behindLength o (h .0)) ks e kz (h .3) g (omega arith))
+          (then _ _ (at ks) (length-is doc o (h .0) (size ts) (at ks) (h .2)) ∙ walks-all ts l (afterLength o (h .0)) ks e kz (h .3) g (omega arith))
       walks (obj ms) zero o ks e kz h g d = absurd (omega arith)
       walks (obj ms) (suc l) o ks e kz h g d =
           then _ _ (at ks) (byte-is doc o o (at ks) (h .1 .inside)) ∙ rw (h .1 .form-is)
-          (then _ _ (at ks) (length-is doc o (h .0) (sizem ms) (at ks) (h .2)) ∙ walks-members ms l (behindLength o (h .0)) ks e kz (h .3) g (omega arith))
+          (then _ _ (at ks) (length-is doc o (h .0) (sizem ms) (at ks) (h .2)) ∙ walks-members ms l (afterLength o (h .0)) ks e kz (h .3) g (omega arith))
 
       walks-all : (ts : Trees) (l o : ℕ) (ks : Keys) (e : ℕ) (kz : Keys) → ValuesAre doc ts o ks e kz → FirstOf kz tab → depths ts ≤ l
           → inTurn (value key l doc) (size ts) o (at ks) ≡ done e (at kz)

@@ -8,7 +8,7 @@ use lib.ListN.{getD}
 use Rattle.json.specs.Choose.{choose}
 use Rattle.json.specs.Number.{Float, binary32, binary64}
 
--- how many bytes a length or a payload takes behind its byte
+-- how many bytes a length or a payload takes after its byte
 pub data Width : Type 0 where
   one two four eight : Width
 
@@ -20,10 +20,10 @@ bytes eight = 8
 
 -- ---- type bytes
 
--- a length: in the type byte itself (a tiny one), or behind it
+-- a length: in the type byte itself (a tiny one), or after it
 pub data Len : Type 0 where
   tiny : ℕ → Len
-  behind : Width → Len
+  after : Width → Len
 
 -- a tiny int is kept as its byte
 pub data Form : Type 0 where
@@ -43,9 +43,9 @@ firstForms =
     fNull ∷ fBool false ∷ fBool true
     ∷ fInt true one ∷ fInt false one ∷ fInt true two ∷ fInt false two ∷ fInt true four ∷ fInt false four ∷ fInt true eight ∷ fInt false eight
     ∷ fFloat binary32 four ∷ fFloat binary64 eight
-    ∷ fString (behind one) ∷ fString (behind two) ∷ fString (behind four)
-    ∷ fObject (behind one) ∷ fObject (behind two) ∷ fObject (behind four)
-    ∷ fArray (behind one) ∷ fArray (behind two) ∷ fArray (behind four)
+    ∷ fString (after one) ∷ fString (after two) ∷ fString (after four)
+    ∷ fObject (after one) ∷ fObject (after two) ∷ fObject (after four)
+    ∷ fArray (after one) ∷ fArray (after two) ∷ fArray (after four)
     ∷ []
 
 -- a tiny length is the byte less the first byte of its range
@@ -60,16 +60,16 @@ formOf b =
 
 -- ---- key bytes
 
--- the number that a key byte carries, in itself or as a v_uint16 behind it: of an immediate key its text's length, of any
+-- the number that a key byte carries, in itself or as a v_uint16 after it: of an immediate key its text's length, of any
 -- other an index
-pub data Index : Type 0 where
-  inByte : ℕ → Index
-  spelled : Index
+pub data KeyNumber : Type 0 where
+  inByte : ℕ → KeyNumber
+  spelled : KeyNumber
 
 pub data KeyForm : Type 0 where
-  immediate : Index → KeyForm
-  backReference : Index → KeyForm
-  globalIndex : Index → KeyForm
+  immediate : KeyNumber → KeyForm
+  backReference : KeyNumber → KeyForm
+  globalIndex : KeyNumber → KeyForm
   kReserved : KeyForm
 
 unfoldable pub keyFormOf : ℕ → KeyForm

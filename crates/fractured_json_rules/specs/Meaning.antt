@@ -14,7 +14,7 @@ use Rattle.json.specs.Choose.{choose}
 use Rattle.json.specs.Limits.{leastFractured, longest, deepest}
 use Rattle.json.specs.Number.{Float, finite, floatTree, wholeTree, signedTree, scaled}
 use Rattle.json.specs.Tree.{Tree, null, bool, num, str, arr, obj, Trees, none, more, Members, end, member, size, sizem, depth}
-use Rattle.fractured_json_rules.specs.ByteTables.{Width, bytes, Len, tiny, behind, Form, fNull, fBool, fInt, fFloat, fTiny, fString, fObject, fArray, formOf, Index, inByte, spelled, KeyForm, immediate, backReference, keyFormOf}
+use Rattle.fractured_json_rules.specs.ByteTables.{Width, bytes, Len, tiny, after, Form, fNull, fBool, fInt, fFloat, fTiny, fString, fObject, fArray, formOf, KeyNumber, inByte, spelled, KeyForm, immediate, backReference, keyFormOf}
 
 -- ---- bytes and lengths
 
@@ -27,14 +27,14 @@ pub record KeyStarts (doc : List ℕ) (o : ℕ) (form : KeyForm) : Type 0 where
   pub inside : o < length doc
   pub form-is : keyFormOf (getD doc o 0) ≡ form
 
--- the length at the type byte at o is n; what it measures starts behind it
+-- the length at the type byte at o is n; what it measures starts after it
 abbrev pub LengthIs : List ℕ → ℕ → Len → ℕ → Type 0
 LengthIs doc o (tiny k) n = n ≡ k
-LengthIs doc o (behind w) n = (o + 1 + bytes w ≤ length doc) × (n ≡ number doc (o + 1) (bytes w))
+LengthIs doc o (after w) n = (o + 1 + bytes w ≤ length doc) × (n ≡ number doc (o + 1) (bytes w))
 
-abbrev pub behindLength : ℕ → Len → ℕ
-behindLength o (tiny k) = o + 1
-behindLength o (behind w) = o + 1 + bytes w
+abbrev pub afterLength : ℕ → Len → ℕ
+afterLength o (tiny k) = o + 1
+afterLength o (after w) = o + 1 + bytes w
 
 -- the text t is the n bytes from o, which are there
 pub record TextIs (doc : List ℕ) (o n : ℕ) (t : List ℕ) : Type 0 where
@@ -61,7 +61,7 @@ pub data NumberIs (doc : List ℕ) (t : Tree) (o e : ℕ) : Type 0 where
 
 -- ---- keys
 
--- The v_uint16 behind the byte at o is n and ends at e: one to three bytes, seven bits each, lowest first, the top bit
+-- The v_uint16 after the byte at o is n and ends at e: one to three bytes, seven bits each, lowest first, the top bit
 -- saying that another follows; a third byte is at most 3.
 pub data Spelled (doc : List ℕ) (o n e : ℕ) : Type 0 where
   oneByte : o + 1 < length doc → getD doc (o + 1) 0 < 128 → n ≡ getD doc (o + 1) 0 → e ≡ o + 2 → Spelled doc o n e
@@ -71,9 +71,9 @@ pub data Spelled (doc : List ℕ) (o n e : ℕ) : Type 0 where
       → n ≡ getD doc (o + 1) 0 - 128 + 128 * (getD doc (o + 2) 0 - 128) + 16_384 * getD doc (o + 3) 0 → e ≡ o + 4 → Spelled doc o n e
 
 -- the number that the key byte at o carries is n, and ends at e
-abbrev pub IndexIs : List ℕ → ℕ → Index → ℕ → ℕ → Type 0
-IndexIs doc o (inByte k) n e = (n ≡ k) × (e ≡ o + 1)
-IndexIs doc o spelled n e = Spelled doc o n e
+abbrev pub KeyNumberIs : List ℕ → ℕ → KeyNumber → ℕ → ℕ → Type 0
+KeyNumberIs doc o (inByte k) n e = (n ≡ k) × (e ≡ o + 1)
+KeyNumberIs doc o spelled n e = Spelled doc o n e
 
 -- an immediate key: the start and the length of its text
 pub record Key : Type 0 where
@@ -97,9 +97,9 @@ Fresh doc t ks = (j : ℕ) → j < length ks → keyText doc (getD ks j noKey) �
 -- immediate key is one not met before, and takes the next number; a back reference gives the number of one met before. No
 -- global index is found yet.
 pub data KeyIs (doc t : List ℕ) (o : ℕ) (ks : Keys) (e : ℕ) (kz : Keys) : Type 0 where
-  asText : (x : Index) (n b : ℕ) → KeyStarts doc o (immediate x) → IndexIs doc o x n b → TextIs doc b n t → Fresh doc t ks → e ≡ b + n
+  asText : (x : KeyNumber) (n b : ℕ) → KeyStarts doc o (immediate x) → KeyNumberIs doc o x n b → TextIs doc b n t → Fresh doc t ks → e ≡ b + n
       → kz ≡ ks ++ (record { start = b; len = n } ∷ []) → KeyIs doc t o ks e kz
-  asBack : (x : Index) (j : ℕ) → KeyStarts doc o (backReference x) → IndexIs doc o x j e → j < length ks → t ≡ keyText doc (getD ks j noKey)
+  asBack : (x : KeyNumber) (j : ℕ) → KeyStarts doc o (backReference x) → KeyNumberIs doc o x j e → j < length ks → t ≡ keyText doc (getD ks j noKey)
       → kz ≡ ks → KeyIs doc t o ks e kz
 
 -- ---- values
@@ -112,9 +112,9 @@ abbrev mutual
   ValueIs doc (bool b) o ks e kz = Starts doc o (fBool b) × (e ≡ o + 1) × (kz ≡ ks)
   ValueIs doc (num s m) o ks e kz = NumberIs doc (num s m) o e × (kz ≡ ks)
   ValueIs doc (str t) o ks e kz =
-      (x : Len) × (n : ℕ) × Starts doc o (fString x) × LengthIs doc o x n × TextIs doc (behindLength o x) n t × (e ≡ behindLength o x + n) × (kz ≡ ks)
-  ValueIs doc (arr ts) o ks e kz = (x : Len) × Starts doc o (fArray x) × LengthIs doc o x (size ts) × ValuesAre doc ts (behindLength o x) ks e kz
-  ValueIs doc (obj ms) o ks e kz = (x : Len) × Starts doc o (fObject x) × LengthIs doc o x (sizem ms) × MembersAre doc ms (behindLength o x) ks e kz
+      (x : Len) × (n : ℕ) × Starts doc o (fString x) × LengthIs doc o x n × TextIs doc (afterLength o x) n t × (e ≡ afterLength o x + n) × (kz ≡ ks)
+  ValueIs doc (arr ts) o ks e kz = (x : Len) × Starts doc o (fArray x) × LengthIs doc o x (size ts) × ValuesAre doc ts (afterLength o x) ks e kz
+  ValueIs doc (obj ms) o ks e kz = (x : Len) × Starts doc o (fObject x) × LengthIs doc o x (sizem ms) × MembersAre doc ms (afterLength o x) ks e kz
 
   pub ValuesAre : List ℕ → Trees → ℕ → Keys → ℕ → Keys → Type 0
   ValuesAre doc none o ks e kz = (e ≡ o) × (kz ≡ ks)

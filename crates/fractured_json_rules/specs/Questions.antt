@@ -15,9 +15,9 @@ use Rattle.json.specs.Number.{finite}
 use Rattle.json.specs.Reading.{Reading, answer, refuse, ask, _>>=_, _>>_, need}
 use Rattle.json.specs.Span.{Span, spanned}
 use Rattle.json.specs.Texts.{compareTexts, isEqual}
-use Rattle.fractured_json_rules.specs.ByteTables.{bytes, Form, fNull, fBool, fInt, fFloat, fTiny, fString, fObject, fArray, fReserved, formOf, KeyForm, keyFormOf}
-use Rattle.fractured_json_rules.specs.Meaning.{keyText, behindLength}
-use Rattle.fractured_json_rules.specs.Verdict.{header, byteAt, payload, lengthAt, Counted, inTurn, member, value, keyBy}
+use Rattle.fractured_json_rules.specs.ByteTables.{bytes, Form, fNull, fBool, fInt, fFloat, fTiny, fString, fObject, fArray, fReserved, formOf, keyFormOf}
+use Rattle.fractured_json_rules.specs.Meaning.{keyText}
+use Rattle.fractured_json_rules.specs.Verdict.{header, byteAt, payload, lengthAt, textAt, Numeral, inTurn, member, value, keyBy}
 use Rattle.fractured_json_rules.specs.KeyTable.{roomOf, keyOf}
 
 -- ---- before every question, asked at the cursor c
@@ -27,6 +27,12 @@ opening doc c = do
   header doc
   need (leb 3 c) 20 c
 
+-- and before every question but the end: the type byte
+unfoldable pub typeAt : {S : Type 0} → List ℕ → ℕ → Reading S ℕ
+typeAt doc c = do
+  opening doc c
+  byteAt doc c c
+
 -- ---- a key as a question reads it: back references go by the key table and count handed in
 
 -- a key's text, and where the key ends
@@ -34,26 +40,23 @@ pub record KeyRead : Type 0 where
   pub bytes : List ℕ
   pub past : ℕ
 
-unfoldable pub textKey : {S : Type 0} → List ℕ → ℕ → Counted → Reading S KeyRead
+unfoldable pub textKey : {S : Type 0} → List ℕ → ℕ → Numeral → Reading S KeyRead
 textKey doc o n = do
-  need (leb (n .past + n .is) (length doc)) 35 o
-  answer (record { bytes = part doc (n .past) (n .is); past = n .past + n .is })
+  end ← textAt doc o n
+  answer (record { bytes = part doc (n .past) (n .is); past = end })
 
 -- 38 unless the index is under the count, the count not over the room, and the pair inside the document
-unfoldable pub backKey : {S : Type 0} → List ℕ → List ℕ → ℕ → ℕ → Counted → Reading S KeyRead
+unfoldable pub backKey : {S : Type 0} → List ℕ → List ℕ → ℕ → ℕ → Numeral → Reading S KeyRead
 backKey doc words count o n = do
   need (ltb (n .is) count) 38 o
   need (leb count (roomOf words)) 38 o
   need (leb (keyOf words (n .is) .start + keyOf words (n .is) .len) (length doc)) 38 o
   answer (record { bytes = keyText doc (keyOf words (n .is)); past = n .past })
 
-unfoldable pub readKeyBy : {S : Type 0} → List ℕ → List ℕ → ℕ → ℕ → KeyForm → Reading S KeyRead
-readKeyBy doc words count o form = keyBy doc o (textKey doc o) (backKey doc words count o) form
-
 unfoldable pub readKey : {S : Type 0} → List ℕ → List ℕ → ℕ → ℕ → Reading S KeyRead
 readKey doc words count o = do
   b ← byteAt doc o o
-  readKeyBy doc words count o (keyFormOf b)
+  keyBy doc o (textKey doc o) (backKey doc words count o) (keyFormOf b)
 
 -- the key's end alone, for the walk
 unfoldable pub passKey : {S : Type 0} → List ℕ → List ℕ → ℕ → ℕ → Reading S ℕ
@@ -91,19 +94,18 @@ kindBy doc c (fFloat f w) = answer isNumber
 kindBy doc c (fTiny b) = answer isNumber
 kindBy doc c (fString x) = do
   n ← lengthAt doc c x
-  answer (isString n)
+  answer (isString (n .is))
 kindBy doc c (fObject x) = do
   n ← lengthAt doc c x
-  answer (isObject n)
+  answer (isObject (n .is))
 kindBy doc c (fArray x) = do
   n ← lengthAt doc c x
-  answer (isArray n)
+  answer (isArray (n .is))
 kindBy doc c fReserved = refuse 36 c
 
 unfoldable pub kind : {S : Type 0} → List ℕ → ℕ → Reading S Kind
 kind doc c = do
-  opening doc c
-  b ← byteAt doc c c
+  b ← typeAt doc c
   kindBy doc c (formOf b)
 
 -- ---- its number: type byte and 64 bits
@@ -125,11 +127,11 @@ numberBy doc c b fNull = refuse 21 c
 numberBy doc c b (fBool x) = refuse 21 c
 numberBy doc c b (fInt s w) = do
   n ← payload doc c (bytes w)
-  answer (record { type = b; bits = extended s (bytes w) n })
+  answer (record { type = b; bits = extended s (bytes w) (n .is) })
 numberBy doc c b (fFloat f w) = do
   n ← payload doc c (bytes w)
-  need (finite f n) 43 c
-  answer (record { type = b; bits = n })
+  need (finite f (n .is)) 43 c
+  answer (record { type = b; bits = n .is })
 numberBy doc c b (fTiny x) = answer (record { type = b; bits = tinyBits x })
 numberBy doc c b (fString x) = refuse 21 c
 numberBy doc c b (fObject x) = refuse 21 c
@@ -138,64 +140,50 @@ numberBy doc c b fReserved = refuse 36 c
 
 unfoldable pub numberAt : {S : Type 0} → List ℕ → ℕ → Reading S Bits
 numberAt doc c = do
-  opening doc c
-  b ← byteAt doc c c
+  b ← typeAt doc c
   numberBy doc c b (formOf b)
+
+-- ---- the length of a string, an object or an array
+
+-- which of them is wanted; of any other kind 21
+pub data Wanted : Type 0 where
+  aString anObject anArray : Wanted
+
+unfoldable pub wantedBy : {S : Type 0} → List ℕ → ℕ → Form → Wanted → Reading S Numeral
+wantedBy doc c fNull want = refuse 21 c
+wantedBy doc c (fBool b) want = refuse 21 c
+wantedBy doc c (fInt s w) want = refuse 21 c
+wantedBy doc c (fFloat f w) want = refuse 21 c
+wantedBy doc c (fTiny b) want = refuse 21 c
+wantedBy doc c (fString x) aString = lengthAt doc c x
+wantedBy doc c (fString x) anObject = refuse 21 c
+wantedBy doc c (fString x) anArray = refuse 21 c
+wantedBy doc c (fObject x) aString = refuse 21 c
+wantedBy doc c (fObject x) anObject = lengthAt doc c x
+wantedBy doc c (fObject x) anArray = refuse 21 c
+wantedBy doc c (fArray x) aString = refuse 21 c
+wantedBy doc c (fArray x) anObject = refuse 21 c
+wantedBy doc c (fArray x) anArray = lengthAt doc c x
+wantedBy doc c fReserved want = refuse 36 c
+
+unfoldable pub wantedAt : {S : Type 0} → List ℕ → ℕ → Wanted → Reading S Numeral
+wantedAt doc c want = do
+  b ← typeAt doc c
+  wantedBy doc c (formOf b) want
 
 -- ---- its string, both ways
 
-unfoldable pub stringBy : {S : Type 0} → List ℕ → ℕ → Form → Reading S Span
-stringBy doc c fNull = refuse 21 c
-stringBy doc c (fBool b) = refuse 21 c
-stringBy doc c (fInt s w) = refuse 21 c
-stringBy doc c (fFloat f w) = refuse 21 c
-stringBy doc c (fTiny b) = refuse 21 c
-stringBy doc c (fString x) = do
-  n ← lengthAt doc c x
-  need (leb (behindLength c x + n) (length doc)) 35 c
-  answer (record { place = behindLength c x; len = n })
-stringBy doc c (fObject x) = refuse 21 c
-stringBy doc c (fArray x) = refuse 21 c
-stringBy doc c fReserved = refuse 36 c
-
 unfoldable pub stringAt : {S : Type 0} → List ℕ → ℕ → Reading S Span
 stringAt doc c = do
-  opening doc c
-  b ← byteAt doc c c
-  stringBy doc c (formOf b)
+  n ← wantedAt doc c aString
+  _ ← textAt doc c n
+  answer (record { place = n .past; len = n .is })
 
 -- the second way: the text itself
 abbrev pub stringBytes : List ℕ → ℕ → List ℕ
 stringBytes doc c = spanned doc (ask (stringAt doc c))
 
 -- ---- element i, member j and the first member by key
-
--- `rest` goes on with the length of an array, or of an object; 21 of anything else
-unfoldable pub arrayBy : {S A : Type 0} → List ℕ → ℕ → (ℕ → ℕ → Reading S A) → Form → Reading S A
-arrayBy doc c rest fNull = refuse 21 c
-arrayBy doc c rest (fBool b) = refuse 21 c
-arrayBy doc c rest (fInt s w) = refuse 21 c
-arrayBy doc c rest (fFloat f w) = refuse 21 c
-arrayBy doc c rest (fTiny b) = refuse 21 c
-arrayBy doc c rest (fString x) = refuse 21 c
-arrayBy doc c rest (fObject x) = refuse 21 c
-arrayBy doc c rest (fArray x) = do
-  n ← lengthAt doc c x
-  rest n (behindLength c x)
-arrayBy doc c rest fReserved = refuse 36 c
-
-unfoldable pub objectBy : {S A : Type 0} → List ℕ → ℕ → (ℕ → ℕ → Reading S A) → Form → Reading S A
-objectBy doc c rest fNull = refuse 21 c
-objectBy doc c rest (fBool b) = refuse 21 c
-objectBy doc c rest (fInt s w) = refuse 21 c
-objectBy doc c rest (fFloat f w) = refuse 21 c
-objectBy doc c rest (fTiny b) = refuse 21 c
-objectBy doc c rest (fString x) = refuse 21 c
-objectBy doc c rest (fObject x) = do
-  n ← lengthAt doc c x
-  rest n (behindLength c x)
-objectBy doc c rest (fArray x) = refuse 21 c
-objectBy doc c rest fReserved = refuse 36 c
 
 -- where element i stands
 unfoldable pub elementFrom : {S : Type 0} → List ℕ → List ℕ → ℕ → ℕ → ℕ → ℕ → ℕ → Reading S ℕ
@@ -205,9 +193,8 @@ elementFrom doc words count c i n at = do
 
 unfoldable pub elementAt : {S : Type 0} → List ℕ → List ℕ → ℕ → ℕ → ℕ → Reading S ℕ
 elementAt doc words count c i = do
-  opening doc c
-  b ← byteAt doc c c
-  arrayBy doc c (λ n at. elementFrom doc words count c i n at) (formOf b)
+  n ← wantedAt doc c anArray
+  elementFrom doc words count c i (n .is) (n .past)
 
 -- where the key byte and the value of member j stand
 pub record MemberAt : Type 0 where
@@ -223,16 +210,15 @@ memberFrom doc words count c j n at = do
 
 unfoldable pub memberAt : {S : Type 0} → List ℕ → List ℕ → ℕ → ℕ → ℕ → Reading S MemberAt
 memberAt doc words count c j = do
-  opening doc c
-  b ← byteAt doc c c
-  objectBy doc c (λ n at. memberFrom doc words count c j n at) (formOf b)
+  n ← wantedAt doc c anObject
+  memberFrom doc words count c j (n .is) (n .past)
 
 -- where the value of the first member with the key x stands, or absent
 pub data Found : Type 0 where
   valueAt : ℕ → Found
   absent : Found
 
--- from the member at o on, with so many behind it; behind the last key nothing is read
+-- from the member at o on, with so many after it; after the last key nothing is read
 unfoldable pub findFrom : {S : Type 0} → List ℕ → List ℕ → ℕ → List ℕ → ℕ → ℕ → Reading S Found
 findFrom doc words count x zero o = do
   k ← readKey doc words count o
@@ -247,6 +233,5 @@ findIn doc words count x (suc later) at = findFrom doc words count x later at
 
 unfoldable pub firstMember : {S : Type 0} → List ℕ → List ℕ → ℕ → ℕ → List ℕ → Reading S Found
 firstMember doc words count c x = do
-  opening doc c
-  b ← byteAt doc c c
-  objectBy doc c (λ n at. findIn doc words count x n at) (formOf b)
+  n ← wantedAt doc c anObject
+  findIn doc words count x (n .is) (n .past)

@@ -10,32 +10,32 @@ use Rattle.json.specs.Limits.{deepest}
 use Rattle.json.specs.Number.{floatTree}
 use Rattle.json.specs.Reading.{Outcome, halt, done}
 use Rattle.json.specs.Tree.{Tree, null, bool, str, arr, obj, Trees, none, more, Members, end, member}
-use Rattle.fractured_json_rules.specs.ByteTables.{bytes, Len, tiny, behind, Form, fNull, fBool, fInt, fFloat, fTiny, fString, fObject, fArray, fReserved, formOf, Index, inByte, spelled, KeyForm, immediate, backReference, globalIndex, kReserved, keyFormOf}
-use Rattle.fractured_json_rules.specs.Meaning.{noKey, Keys, keyText, behindLength, intTree, tinyTree}
-use Rattle.fractured_json_rules.specs.Verdict.{Counted, counted, verdict}
+use Rattle.fractured_json_rules.specs.ByteTables.{bytes, Len, tiny, after, Form, fNull, fBool, fInt, fFloat, fTiny, fString, fObject, fArray, fReserved, formOf, KeyNumber, inByte, spelled, KeyForm, immediate, backReference, globalIndex, kReserved, keyFormOf}
+use Rattle.fractured_json_rules.specs.Meaning.{noKey, Keys, keyText, afterLength, intTree, tinyTree}
+use Rattle.fractured_json_rules.specs.Verdict.{Numeral, numeral, verdict}
 
 -- ---- ends
 
 abbrev pub lengthIn : List ℕ → ℕ → Len → ℕ
 lengthIn doc o (tiny n) = n
-lengthIn doc o (behind w) = number doc (o + 1) (bytes w)
+lengthIn doc o (after w) = number doc (o + 1) (bytes w)
 
--- a v_uint16 behind the byte at o, whose bytes are b0, b1 and b2
-unfoldable pub spelledIn : ℕ → ℕ → ℕ → ℕ → Counted
+-- a v_uint16 after the byte at o, whose bytes are b0, b1 and b2
+unfoldable pub spelledIn : ℕ → ℕ → ℕ → ℕ → Numeral
 spelledIn o b0 b1 b2 =
-    choose (ltb b0 128) (counted b0 (o + 2))
-    (choose (ltb b1 128) (counted (b0 - 128 + 128 * b1) (o + 3))
-    (counted (b0 - 128 + 128 * (b1 - 128) + 16_384 * b2) (o + 4)))
+    choose (ltb b0 128) (numeral b0 (o + 2))
+    (choose (ltb b1 128) (numeral (b0 - 128 + 128 * b1) (o + 3))
+    (numeral (b0 - 128 + 128 * (b1 - 128) + 16_384 * b2) (o + 4)))
 
 -- the number that the key byte at o carries, and where that ends
-abbrev pub indexIn : List ℕ → ℕ → Index → Counted
-indexIn doc o (inByte n) = counted n (o + 1)
-indexIn doc o spelled = spelledIn o (getD doc (o + 1) 0) (getD doc (o + 2) 0) (getD doc (o + 3) 0)
+abbrev pub keyNumberIn : List ℕ → ℕ → KeyNumber → Numeral
+keyNumberIn doc o (inByte n) = numeral n (o + 1)
+keyNumberIn doc o spelled = spelledIn o (getD doc (o + 1) 0) (getD doc (o + 2) 0) (getD doc (o + 3) 0)
 
 abbrev pub keyEndBy : List ℕ → ℕ → KeyForm → ℕ
-keyEndBy doc o (immediate x) = indexIn doc o x .past + indexIn doc o x .is
-keyEndBy doc o (backReference x) = indexIn doc o x .past
-keyEndBy doc o (globalIndex x) = indexIn doc o x .past
+keyEndBy doc o (immediate x) = keyNumberIn doc o x .past + keyNumberIn doc o x .is
+keyEndBy doc o (backReference x) = keyNumberIn doc o x .past
+keyEndBy doc o (globalIndex x) = keyNumberIn doc o x .past
 keyEndBy doc o kReserved = o
 
 -- where the key at o ends, and so its value starts
@@ -53,9 +53,9 @@ endBy doc inner o (fBool b) = o + 1
 endBy doc inner o (fInt s w) = o + 1 + bytes w
 endBy doc inner o (fFloat f w) = o + 1 + bytes w
 endBy doc inner o (fTiny b) = o + 1
-endBy doc inner o (fString x) = behindLength o x + lengthIn doc o x
-endBy doc inner o (fObject x) = steps (λ m. inner (keyEnd doc m)) (lengthIn doc o x) (behindLength o x)
-endBy doc inner o (fArray x) = steps inner (lengthIn doc o x) (behindLength o x)
+endBy doc inner o (fString x) = afterLength o x + lengthIn doc o x
+endBy doc inner o (fObject x) = steps (λ m. inner (keyEnd doc m)) (lengthIn doc o x) (afterLength o x)
+endBy doc inner o (fArray x) = steps inner (lengthIn doc o x) (afterLength o x)
 endBy doc inner o fReserved = o
 
 -- where the value at o ends, in which containers are nested so many levels deep or less
@@ -66,8 +66,8 @@ endAt (suc levels) doc o = endBy doc (endAt levels doc) o (formOf (getD doc o 0)
 -- ---- the tree; ks are all the immediate keys of the document
 
 abbrev pub keyTextBy : List ℕ → Keys → ℕ → KeyForm → List ℕ
-keyTextBy doc ks o (immediate x) = part doc (indexIn doc o x .past) (indexIn doc o x .is)
-keyTextBy doc ks o (backReference x) = keyText doc (getD ks (indexIn doc o x .is) noKey)
+keyTextBy doc ks o (immediate x) = part doc (keyNumberIn doc o x .past) (keyNumberIn doc o x .is)
+keyTextBy doc ks o (backReference x) = keyText doc (getD ks (keyNumberIn doc o x .is) noKey)
 keyTextBy doc ks o (globalIndex x) = []
 keyTextBy doc ks o kReserved = []
 
@@ -89,9 +89,9 @@ treeBy doc ks tree past o (fBool b) = bool b
 treeBy doc ks tree past o (fInt s w) = intTree s w (number doc (o + 1) (bytes w))
 treeBy doc ks tree past o (fFloat f w) = floatTree f (number doc (o + 1) (bytes w))
 treeBy doc ks tree past o (fTiny b) = tinyTree b
-treeBy doc ks tree past o (fString x) = str (part doc (behindLength o x) (lengthIn doc o x))
-treeBy doc ks tree past o (fObject x) = obj (memberTrees doc ks tree past (lengthIn doc o x) (behindLength o x))
-treeBy doc ks tree past o (fArray x) = arr (valueTrees tree past (lengthIn doc o x) (behindLength o x))
+treeBy doc ks tree past o (fString x) = str (part doc (afterLength o x) (lengthIn doc o x))
+treeBy doc ks tree past o (fObject x) = obj (memberTrees doc ks tree past (lengthIn doc o x) (afterLength o x))
+treeBy doc ks tree past o (fArray x) = arr (valueTrees tree past (lengthIn doc o x) (afterLength o x))
 treeBy doc ks tree past o fReserved = null
 
 unfoldable pub treeAt : ℕ → List ℕ → Keys → ℕ → Tree

@@ -14,8 +14,8 @@ use Rattle.json.specs.Limits.{leastFractured, longest, deepest}
 use Rattle.json.specs.Number.{finite}
 use Rattle.json.specs.Reading.{Outcome, Reading, answer, refuse, kept, keep, _>>=_, _>>_, need}
 use Rattle.json.specs.Texts.{compareTexts, isEqual}
-use Rattle.fractured_json_rules.specs.ByteTables.{bytes, Len, tiny, behind, Form, fNull, fBool, fInt, fFloat, fTiny, fString, fObject, fArray, fReserved, formOf, Index, inByte, spelled, KeyForm, immediate, backReference, globalIndex, kReserved, keyFormOf}
-use Rattle.fractured_json_rules.specs.Meaning.{Keys, keyText, behindLength}
+use Rattle.fractured_json_rules.specs.ByteTables.{bytes, Len, tiny, after, Form, fNull, fBool, fInt, fFloat, fTiny, fString, fObject, fArray, fReserved, formOf, KeyNumber, inByte, spelled, KeyForm, immediate, backReference, globalIndex, kReserved, keyFormOf}
+use Rattle.fractured_json_rules.specs.Meaning.{Keys, keyText}
 
 -- ---- 31 to 34
 
@@ -29,51 +29,58 @@ header doc = do
 
 -- ---- 35: bytes of a value or key run out, at its first byte
 
+-- a number, and where it ends
+pub record Numeral : Type 0 where
+  pub is : ℕ
+  pub past : ℕ
+
+abbrev pub numeral : ℕ → ℕ → Numeral
+numeral n e = record { is = n; past = e }
+
 -- the byte at o, of what starts at p
 unfoldable pub byteAt : {S : Type 0} → List ℕ → ℕ → ℕ → Reading S ℕ
 byteAt doc o p = do
   need (ltb o (length doc)) 35 p
   answer (getD doc o 0)
 
--- the number in the w bytes behind the byte at o
-unfoldable pub payload : {S : Type 0} → List ℕ → ℕ → ℕ → Reading S ℕ
+-- the number in the w bytes after the byte at o
+unfoldable pub payload : {S : Type 0} → List ℕ → ℕ → ℕ → Reading S Numeral
 payload doc o w = do
   need (leb (o + 1 + w) (length doc)) 35 o
-  answer (number doc (o + 1) w)
+  answer (numeral (number doc (o + 1) w) (o + 1 + w))
 
-unfoldable pub lengthAt : {S : Type 0} → List ℕ → ℕ → Len → Reading S ℕ
-lengthAt doc o (tiny n) = answer n
-lengthAt doc o (behind w) = payload doc o (bytes w)
+-- the length at the type byte at o
+unfoldable pub lengthAt : {S : Type 0} → List ℕ → ℕ → Len → Reading S Numeral
+lengthAt doc o (tiny n) = answer (numeral n (o + 1))
+lengthAt doc o (after w) = payload doc o (bytes w)
+
+-- a text of n .is bytes from n .past on, of what starts at o: the answer is where it ends
+unfoldable pub textAt : {S : Type 0} → List ℕ → ℕ → Numeral → Reading S ℕ
+textAt doc o n = do
+  need (leb (n .past + n .is) (length doc)) 35 o
+  answer (n .past + n .is)
 
 -- ---- 37: v_uint16, byte by byte
 
--- a number, and where it ends
-pub record Counted : Type 0 where
-  pub is : ℕ
-  pub past : ℕ
-
-abbrev pub counted : ℕ → ℕ → Counted
-counted n e = record { is = n; past = e }
-
--- behind the byte at o stand b0, b1 and perhaps a third; the last argument says whether b1 is the last
-unfoldable pub afterSecond : {S : Type 0} → List ℕ → ℕ → ℕ → ℕ → Bool → Reading S Counted
-afterSecond doc o b0 b1 true = answer (counted (b0 - 128 + 128 * b1) (o + 3))
+-- after the byte at o stand b0, b1 and perhaps a third; the last argument says whether b1 is the last
+unfoldable pub afterSecond : {S : Type 0} → List ℕ → ℕ → ℕ → ℕ → Bool → Reading S Numeral
+afterSecond doc o b0 b1 true = answer (numeral (b0 - 128 + 128 * b1) (o + 3))
 afterSecond doc o b0 b1 false = do
   b2 ← byteAt doc (o + 3) o
   need (leb b2 3) 37 (o + 3)
-  answer (counted (b0 - 128 + 128 * (b1 - 128) + 16_384 * b2) (o + 4))
+  answer (numeral (b0 - 128 + 128 * (b1 - 128) + 16_384 * b2) (o + 4))
 
 -- b0 and perhaps more; the last argument says whether b0 is the last
-unfoldable pub afterFirst : {S : Type 0} → List ℕ → ℕ → ℕ → Bool → Reading S Counted
-afterFirst doc o b0 true = answer (counted b0 (o + 2))
+unfoldable pub afterFirst : {S : Type 0} → List ℕ → ℕ → ℕ → Bool → Reading S Numeral
+afterFirst doc o b0 true = answer (numeral b0 (o + 2))
 afterFirst doc o b0 false = do
   b1 ← byteAt doc (o + 2) o
   afterSecond doc o b0 b1 (ltb b1 128)
 
 -- the number that the key byte at o carries
-unfoldable pub indexAt : {S : Type 0} → List ℕ → ℕ → Index → Reading S Counted
-indexAt doc o (inByte n) = answer (counted n (o + 1))
-indexAt doc o spelled = do
+unfoldable pub keyNumberAt : {S : Type 0} → List ℕ → ℕ → KeyNumber → Reading S Numeral
+keyNumberAt doc o (inByte n) = answer (numeral n (o + 1))
+keyNumberAt doc o spelled = do
   b0 ← byteAt doc (o + 1) o
   afterFirst doc o b0 (ltb b0 128)
 
@@ -92,47 +99,40 @@ member key value o = do
   v ← key o
   value v
 
--- the value at o, by its form; `array` and `object` read n things from an offset on
-unfoldable pub valueBy : {S : Type 0} → List ℕ → ℕ → (ℕ → ℕ → Reading S ℕ) → (ℕ → ℕ → Reading S ℕ) → Form → Reading S ℕ
+-- the value at o, by its form; `array` and `object` go on with a length
+unfoldable pub valueBy : {S : Type 0} → List ℕ → ℕ → (Numeral → Reading S ℕ) → (Numeral → Reading S ℕ) → Form → Reading S ℕ
 valueBy doc o array object fNull = answer (o + 1)
 valueBy doc o array object (fBool b) = answer (o + 1)
 valueBy doc o array object (fTiny b) = answer (o + 1)
 valueBy doc o array object (fInt s w) = do
-  _ ← payload doc o (bytes w)
-  answer (o + 1 + bytes w)
+  n ← payload doc o (bytes w)
+  answer (n .past)
 valueBy doc o array object (fFloat f w) = do
-  bits ← payload doc o (bytes w)
-  need (finite f bits) 43 o
-  answer (o + 1 + bytes w)
-valueBy doc o array object (fString x) = do
-  n ← lengthAt doc o x
-  need (leb (behindLength o x + n) (length doc)) 35 o
-  answer (behindLength o x + n)
-valueBy doc o array object (fObject x) = do
-  n ← lengthAt doc o x
-  object n (behindLength o x)
-valueBy doc o array object (fArray x) = do
-  n ← lengthAt doc o x
-  array n (behindLength o x)
+  n ← payload doc o (bytes w)
+  need (finite f (n .is)) 43 o
+  answer (n .past)
+valueBy doc o array object (fString x) = lengthAt doc o x >>= textAt doc o
+valueBy doc o array object (fObject x) = lengthAt doc o x >>= object
+valueBy doc o array object (fArray x) = lengthAt doc o x >>= array
 valueBy doc o array object fReserved = refuse 36 o
 
 -- with so many levels left for containers; `key` answers where the key's value starts
 unfoldable pub value : {S : Type 0} → (ℕ → Reading S ℕ) → ℕ → List ℕ → ℕ → Reading S ℕ
 value key zero doc o = do
   b ← byteAt doc o o
-  valueBy doc o (λ n at. refuse 41 o) (λ n at. refuse 41 o) (formOf b)
+  valueBy doc o (λ n. refuse 41 o) (λ n. refuse 41 o) (formOf b)
 value key (suc levels) doc o = do
   b ← byteAt doc o o
-  valueBy doc o (λ n at. inTurn (value key levels doc) n at) (λ n at. inTurn (member key (value key levels doc)) n at) (formOf b)
+  valueBy doc o (λ n. inTurn (value key levels doc) (n .is) (n .past)) (λ n. inTurn (member key (value key levels doc)) (n .is) (n .past)) (formOf b)
 
 -- ---- 36 and 38: a key by its form
 
 -- `byLength` goes on with the length of an immediate key's text, `byIndex` with the index of a back reference; no global index
 -- is found yet
-abbrev pub keyBy : {S A : Type 0} → List ℕ → ℕ → (Counted → Reading S A) → (Counted → Reading S A) → KeyForm → Reading S A
-keyBy doc o byLength byIndex (immediate x) = indexAt doc o x >>= byLength
-keyBy doc o byLength byIndex (backReference x) = indexAt doc o x >>= byIndex
-keyBy doc o byLength byIndex (globalIndex x) = indexAt doc o x >>= λ _. refuse 38 o
+unfoldable pub keyBy : {S A : Type 0} → List ℕ → ℕ → (Numeral → Reading S A) → (Numeral → Reading S A) → KeyForm → Reading S A
+keyBy doc o byLength byIndex (immediate x) = keyNumberAt doc o x >>= byLength
+keyBy doc o byLength byIndex (backReference x) = keyNumberAt doc o x >>= byIndex
+keyBy doc o byLength byIndex (globalIndex x) = keyNumberAt doc o x >>= λ _. refuse 38 o
 keyBy doc o byLength byIndex kReserved = refuse 36 o
 
 -- ---- 38, 39 and 40: a key as the check reads it, with room for so many keys
@@ -143,28 +143,25 @@ met doc t [] = false
 met doc t (k ∷ ks) = choose (isEqual (compareTexts (keyText doc k) t)) true (met doc t ks)
 
 -- an immediate key at o, whose text is n .is bytes from n .past on; passed, it has its number before its value is read
-unfoldable pub newKey : ℕ → List ℕ → ℕ → Counted → Reading Keys ℕ
+unfoldable pub newKey : ℕ → List ℕ → ℕ → Numeral → Reading Keys ℕ
 newKey room doc o n = do
-  need (leb (n .past + n .is) (length doc)) 35 o
+  end ← textAt doc o n
   ks ← kept
   need (not (met doc (part doc (n .past) (n .is)) ks)) 39 o
   need (ltb (length ks) room) 40 o
   keep (ks ++ (record { start = n .past; len = n .is } ∷ []))
-  answer (n .past + n .is)
+  answer end
 
-unfoldable pub oldKey : ℕ → Counted → Reading Keys ℕ
+unfoldable pub oldKey : ℕ → Numeral → Reading Keys ℕ
 oldKey o n = do
   ks ← kept
   need (ltb (n .is) (length ks)) 38 o
   answer (n .past)
 
-unfoldable pub checkKeyBy : ℕ → List ℕ → ℕ → KeyForm → Reading Keys ℕ
-checkKeyBy room doc o form = keyBy doc o (newKey room doc o) (oldKey o) form
-
 unfoldable pub checkKey : ℕ → List ℕ → ℕ → Reading Keys ℕ
 checkKey room doc o = do
   b ← byteAt doc o o
-  checkKeyBy room doc o (keyFormOf b)
+  keyBy doc o (newKey room doc o) (oldKey o) (keyFormOf b)
 
 -- ---- the whole check
 

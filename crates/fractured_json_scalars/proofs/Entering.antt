@@ -1,4 +1,4 @@
--- What every question reads first, one law for each way through `open_question`, `enter` and `wanted`; and what goes on behind it.
+-- What every question reads first, one law for each way through `open_question`, `enter` and `wanted`; and what goes on after it.
 use mathlib.Core.Path.{_≡_, sym, ap, _∙_}
 use mathlib.Core.List.{List}
 use Prim.Native.Nat.{ℕ, _≤_, _<_}
@@ -10,20 +10,21 @@ use Rattle.json.specs.Choose.{choose}
 use Rattle.json.specs.Reading.{Reading, ask, answers, refuses, _>>=_, told}
 use Rattle.json.specs.declared.Refusal.{Refusal}
 use Rattle.json.specs.declared.Verdict.{Verdict}
-use Rattle.json.proofs.Reading.{then, stops, need-yes, need-no, assoc}
-use Rattle.fractured_json_rules.specs.ByteTables.{Form, formOf}
-use Rattle.fractured_json_rules.specs.Verdict.{header, byteAt, Counted as Numbered}
-use Rattle.fractured_json_rules.specs.Questions.{opening}
+use Rattle.json.proofs.Reading.{then, stops, need-yes, need-no}
+use Rattle.fractured_json_rules.specs.ByteTables.{formOf}
+use Rattle.fractured_json_rules.specs.Verdict.{header, numeral}
+use Rattle.fractured_json_rules.specs.Verdict as Rules
+use Rattle.fractured_json_rules.specs.Questions.{opening, typeAt, Wanted, wantedAt}
 use Rattle.fractured_json_rules.proofs.Readers.{byte-is}
 use Rattle.fractured_json_values.specs.Heads.{headOf}
-use Rattle.fractured_json_values.specs.Opened.{sizedAt, Counts}
-use Rattle.fractured_json_scalars.specs.Asked.{entering, Enters, wantedHead, wantedAt}
+use Rattle.fractured_json_values.specs.Opened.{sizedAt, ReadsNumeral}
+use Rattle.fractured_json_scalars.specs.Asked.{Enters, wantedHead, wantedIn}
 use Rattle.fractured_json_values.specs.declared.types.Head.{Head}
 use Rattle.fractured_json_scalars.specs.declared.enter.Entered.{Entered}
-use Rattle.fractured_json_values.specs.declared.values.Counted.{Counted}
+use Rattle.fractured_json_values.specs.declared.values.Numeral.{Numeral}
 use Rattle.fractured_json_values.proofs.Numbering.{byte-past}
 use Rattle.fractured_json_values.proofs.Opening.{over, head-width}
-use Rattle.fractured_json_values.proofs.Walks.{then-same}
+use Rattle.fractured_json_scalars.proofs.Forms.{wantedKind, wanted-is}
 
 -- ---- 31 to 34, and 20
 
@@ -46,17 +47,17 @@ pub ruleset opening-laws = (header-refused, cursor-low, cursor-good, needs)
 -- ---- the type byte
 
 module _ (doc : List ℕ) (at : ℕ) (v : Verdict) (vs : told v ≡ ask (opening doc at)) where
-  pub opening-refused : (r : Refusal) → v ≡ Verdict.Refused r → ask (entering doc at) ≡ refuses (r .number) (r .place)
-  unfolding entering
+  pub opening-refused : (r : Refusal) → v ≡ Verdict.Refused r → ask (typeAt doc at) ≡ refuses (r .number) (r .place)
+  unfolding typeAt
   opening-refused r e = stops _ _ tt (sym vs ∙ ap told e)
 
   module _ (e : v ≡ Verdict.Accepted) where
-    pub byte-outside : length doc ≤ at → ask (entering doc at) ≡ refuses 35 at
-    unfolding entering
-    byte-outside h = then _ _ tt (sym vs ∙ ap told e) ∙ byte-past doc at at h
+    pub byte-outside : length doc ≤ at → ask (typeAt doc at) ≡ refuses 35 at
+    unfolding typeAt
+    byte-outside h = then _ _ tt (sym vs ∙ ap told e) ∙ byte-past doc at at tt h
 
-    pub byte-read : at < length doc → ask (entering doc at) ≡ answers (getD doc at 0)
-    unfolding entering
+    pub byte-read : at < length doc → ask (typeAt doc at) ≡ answers (getD doc at 0)
+    unfolding typeAt
     byte-read h = then _ _ tt (sym vs ∙ ap told e) ∙ byte-is doc at at tt h
 
 pub ruleset enter-laws = (opening-refused, byte-outside, byte-read, needs)
@@ -67,58 +68,46 @@ pub entered-inside : (doc : List ℕ) (at : ℕ) (e : Entered) (b : ℕ) → Ent
 entered-inside doc at e b h q = let w : Enters doc at (Entered.Type b) = rw q at h in w .1
 
 module _ {A : Type 0} (doc : List ℕ) (at : ℕ) (f : ℕ → Reading (Unit {0}) A) (e : Entered) (es : Enters doc at e) where
-  pub enters-refused : (r : Refusal) → e ≡ Entered.Refused r → ask (entering doc at >>= f) ≡ refuses (r .number) (r .place)
+  pub enters-refused : (r : Refusal) → e ≡ Entered.Refused r → ask (typeAt doc at >>= f) ≡ refuses (r .number) (r .place)
   enters-refused r q = stops _ _ tt (rw q at es)
 
-  pub enters-read : (b : ℕ) → e ≡ Entered.Type b → ask (entering doc at >>= f) ≡ ask (f b)
+  pub enters-read : (b : ℕ) → e ≡ Entered.Type b → ask (typeAt doc at >>= f) ≡ ask (f b)
   enters-read b q = let w : Enters doc at (Entered.Type b) = rw q at es in then _ _ tt (w .0)
-
--- a question that goes on behind its type byte
-pub asks-behind : {A : Type 0} (doc : List ℕ) (at : ℕ) (f : ℕ → Reading (Unit {0}) A) → ask (opening doc at >>= λ _. byteAt doc at at >>= f) ≡ ask (entering doc at >>= f)
-unfolding entering
-asks-behind doc at f = sym (assoc _ _ f tt)
 
 -- ---- a length, by the kind that is wanted
 
 module _ (doc : List ℕ) (at want : ℕ) (e : Entered) (es : Enters doc at e) where
-  pub wanted-refused : (r : Refusal) → e ≡ Entered.Refused r → ask (wantedAt doc at want) ≡ refuses (r .number) (r .place)
-  unfolding wantedAt
+  pub wanted-refused : (r : Refusal) → e ≡ Entered.Refused r → ask (wantedIn doc at want) ≡ refuses (r .number) (r .place)
+  unfolding wantedIn
   wanted-refused r q = enters-refused doc at _ e es r q
 
   module _ (b : ℕ) (q : e ≡ Entered.Type b) (h : Head) (hs : h ≡ headOf (formOf b)) where
-    by-head : ask (wantedAt doc at want) ≡ ask (wantedHead doc at want h)
-    unfolding wantedAt
+    by-head : ask (wantedIn doc at want) ≡ ask (wantedHead doc at want h)
+    unfolding wantedIn
     by-head = enters-read doc at _ e es b q ∙ rw hs
 
-    pub wanted-reserved : h .kind ≡ 11 → ask (wantedAt doc at want) ≡ refuses 36 at
+    pub wanted-reserved : h .kind ≡ 11 → ask (wantedIn doc at want) ≡ refuses 36 at
     unfolding wantedHead choose
     wanted-reserved k = by-head ∙ rw k
 
     module _ (n : h .kind ≡ 11 → ⊥) where
-      pub wanted-sized : (c : Counted) → h .kind ≡ want → Counts (length doc) (ask (sizedAt doc at (h .width) (h .tiny))) c → Counts (length doc) (ask (wantedAt doc at want)) c
+      pub wanted-sized : (c : Numeral) → h .kind ≡ want → ReadsNumeral (length doc) (ask (sizedAt doc at (h .width) (h .tiny))) c → ReadsNumeral (length doc) (ask (wantedIn doc at want)) c
       unfolding wantedHead choose
       wanted-sized c k s =
-          let e : ask (wantedAt doc at want) ≡ ask (sizedAt doc at (h .width) (h .tiny)) = by-head ∙ rw (ne-eqb (h .kind) 11 n, eq-eqb (h .kind) want k) in
+          let e : ask (wantedIn doc at want) ≡ ask (sizedAt doc at (h .width) (h .tiny)) = by-head ∙ rw (ne-eqb (h .kind) 11 n, eq-eqb (h .kind) want k) in
           rw e s
 
-      pub wanted-other : (h .kind ≡ want → ⊥) → ask (wantedAt doc at want) ≡ refuses 21 at
+      pub wanted-other : (h .kind ≡ want → ⊥) → ask (wantedIn doc at want) ≡ refuses 21 at
       unfolding wantedHead choose
       wanted-other k = by-head ∙ rw (ne-eqb (h .kind) 11 n, ne-eqb (h .kind) want k)
 
 pub ruleset wanted-laws = (entered-inside, head-width, wanted-refused, wanted-reserved, wanted-sized, wanted-other, needs)
 
--- ---- what goes on behind a length
+-- ---- a question of one kind, which goes on with its length
 
--- a question of one kind: its rest follows the length
-pub behind-length : {A : Type 0} (doc : List ℕ) (at want : ℕ) (by : Form → Reading (Unit {0}) A) (rest : Numbered → Reading (Unit {0}) A)
-    → ((f : Form) (s : Unit {0}) → by f s ≡ (wantedHead doc at want (headOf f) >>= rest) s)
-    → ask (opening doc at >>= λ _. byteAt doc at at >>= λ b. by (formOf b)) ≡ ask (wantedAt doc at want >>= rest)
-unfolding wantedAt
-behind-length doc at want by rest h = asks-behind doc at _ ∙ (then-same (entering doc at) _ _ tt (λ b s. h (formOf b) s) ∙ sym (assoc _ _ rest tt))
+module _ {A : Type 0} (doc : List ℕ) (at : ℕ) (want : Wanted) (rest : Rules.Numeral → Reading (Unit {0}) A) (c : Numeral) (cs : ReadsNumeral (length doc) (ask (wantedIn doc at (wantedKind want))) c) where
+  pub length-refused : (r : Refusal) → c ≡ Numeral.Refused r → ask (wantedAt doc at want >>= rest) ≡ refuses (r .number) (r .place)
+  length-refused r q = stops _ _ tt (wanted-is doc at want tt ∙ rw q at cs)
 
-module _ {A : Type 0} (doc : List ℕ) (at want : ℕ) (rest : Numbered → Reading (Unit {0}) A) (c : Counted) (cs : Counts (length doc) (ask (wantedAt doc at want)) c) where
-  pub length-refused : (r : Refusal) → c ≡ Counted.Refused r → ask (wantedAt doc at want >>= rest) ≡ refuses (r .number) (r .place)
-  length-refused r q = stops _ _ tt (rw q at cs)
-
-  pub length-read : (n p : ℕ) → c ≡ Counted.Is n p → ask (wantedAt doc at want >>= rest) ≡ ask (rest (record { is = n; past = p }))
-  length-read n p q = let w : Counts (length doc) (ask (wantedAt doc at want)) (Counted.Is n p) = rw q at cs in then _ _ tt (w .0)
+  pub length-read : (n p : ℕ) → c ≡ Numeral.Is n p → ask (wantedAt doc at want >>= rest) ≡ ask (rest (numeral n p))
+  length-read n p q = let w : ReadsNumeral (length doc) (ask (wantedIn doc at (wantedKind want))) (Numeral.Is n p) = rw q at cs in then _ _ tt (wanted-is doc at want tt ∙ w .0)

@@ -12,10 +12,10 @@ use Rattle.json.proofs.Reading.{then, stops}
 use Rattle.fractured_json_rules.specs.ByteTables.{formOf}
 use Rattle.fractured_json_rules.specs.Questions.{Kind, isNull, isFalse, isTrue, isNumber, isString, isObject, isArray, kindBy}
 use Rattle.fractured_json_values.specs.Heads.{headOf}
-use Rattle.fractured_json_values.specs.Opened.{sizedAt, Counts}
+use Rattle.fractured_json_values.specs.Opened.{sizedAt, ReadsNumeral}
 use Rattle.fractured_json_scalars.specs.Asked.{scalarKind, sizedKind, kindHead}
 use Rattle.fractured_json_values.specs.declared.types.Head.{Head}
-use Rattle.fractured_json_values.specs.declared.values.Counted.{Counted}
+use Rattle.fractured_json_values.specs.declared.values.Numeral.{Numeral}
 use Rattle.fractured_json_scalars.proofs.Forms.{kind-form}
 use Rattle.fractured_json_values.proofs.Opening.{head-width}
 
@@ -65,15 +65,15 @@ module _ (doc : List ℕ) (at b : ℕ) (h : Head) (hs : h ≡ headOf (formOf b))
     unfolding kindHead choose
     kind-reserved e = sym (by-head ∙ rw e)
 
-    module _ (n : h .kind ≡ 11 → ⊥) (c : Counted) (s : Counts (length doc) (ask (sizedAt doc at (h .width) (h .tiny))) c) where
-      pub length-refused : (r : Refusal) → c ≡ Counted.Refused r → refuses (r .number) (r .place) ≡ ask (kindBy doc at (formOf b))
+    module _ (n : h .kind ≡ 11 → ⊥) (c : Numeral) (s : ReadsNumeral (length doc) (ask (sizedAt doc at (h .width) (h .tiny))) c) where
+      pub length-refused : (r : Refusal) → c ≡ Numeral.Refused r → refuses (r .number) (r .place) ≡ ask (kindBy doc at (formOf b))
       unfolding kindHead choose
       length-refused r q = sym (by-head ∙ rw (le-ltb (h .kind) 8 m, ne-eqb (h .kind) 11 n) (stops _ _ tt (rw q at s)))
 
-      pub sized-told : (k p : ℕ) (r : Asked Kind) → c ≡ Counted.Is k p → r ≡ answers (sizedKind (h .kind) k) → r ≡ ask (kindBy doc at (formOf b))
+      pub sized-told : (k p : ℕ) (r : Asked Kind) → c ≡ Numeral.Is k p → r ≡ answers (sizedKind (h .kind) k) → r ≡ ask (kindBy doc at (formOf b))
       unfolding kindHead choose
       sized-told k p r q e =
-          let w : Counts (length doc) (ask (sizedAt doc at (h .width) (h .tiny))) (Counted.Is k p) = rw q at s in
+          let w : ReadsNumeral (length doc) (ask (sizedAt doc at (h .width) (h .tiny))) (Numeral.Is k p) = rw q at s in
           e ∙ sym (by-head ∙ rw (le-ltb (h .kind) 8 m, ne-eqb (h .kind) 11 n) (then _ _ tt (w .0)))
 
 pub ruleset kind-of-laws = (scalar-told, kind-reserved, length-refused, sized-told, head-width, needs)

@@ -15,13 +15,13 @@ use Rattle.json.specs.Reading.{Asked, ask, answers, refuses}
 use Rattle.json.specs.declared.Refusal.{Refusal}
 use Rattle.json.proofs.Reading.{done-answer, then, stops, pass, fail}
 use Rattle.fractured_json_rules.specs.ByteTables.{one, two, four, eight, Form, fNull, fBool, fInt, fFloat, fTiny, fString, fObject, fArray, fReserved, formOf}
-use Rattle.fractured_json_rules.specs.Verdict.{counted}
+use Rattle.fractured_json_rules.specs.Verdict.{numeral}
 use Rattle.fractured_json_rules.specs.Questions.{Bits, extended, tinyBits, numberBy}
 use Rattle.fractured_json_values.specs.Heads.{headOf}
-use Rattle.fractured_json_values.specs.Opened.{sizedAt, finiteKind, Counts, Below}
+use Rattle.fractured_json_values.specs.Opened.{sizedAt, finiteKind, ReadsNumeral, Below}
 use Rattle.fractured_json_scalars.specs.Asked.{bitsOf, numberKind, numberHead}
 use Rattle.fractured_json_values.specs.declared.types.Head.{Head}
-use Rattle.fractured_json_values.specs.declared.values.Counted.{Counted}
+use Rattle.fractured_json_values.specs.declared.values.Numeral.{Numeral}
 use Rattle.json.proofs.Table.{both, split, at}
 use Rattle.fractured_json_values.proofs.Opening.{is-true, is-false, head-width}
 use Rattle.fractured_json_values.proofs.Walks.{Sound, sound}
@@ -117,25 +117,25 @@ pub ruleset number-kind-laws = (signed-asks, tiny-asks, signed-told, tiny-told, 
 
 -- ---- a number at a place
 
--- a signed int has bytes behind it, and a tiny int has none
-signed-behind : (f : Form) → headOf f .kind ≡ 3 → headOf f .width ≡ 0 → ⊥
-signed-behind fNull e z = omega arith
-signed-behind (fBool false) e z = omega arith
-signed-behind (fBool true) e z = omega arith
-signed-behind (fInt true one) e z = omega arith
-signed-behind (fInt true two) e z = omega arith
-signed-behind (fInt true four) e z = omega arith
-signed-behind (fInt true eight) e z = omega arith
-signed-behind (fInt false w) e z = omega arith
-signed-behind (fFloat f one) e z = omega arith
-signed-behind (fFloat f two) e z = omega arith
-signed-behind (fFloat f four) e z = omega arith
-signed-behind (fFloat f eight) e z = omega arith
-signed-behind (fTiny b) e z = omega arith
-signed-behind (fString x) e z = omega arith
-signed-behind (fObject x) e z = omega arith
-signed-behind (fArray x) e z = omega arith
-signed-behind fReserved e z = omega arith
+-- a signed int has bytes after it, and a tiny int has none
+signed-after : (f : Form) → headOf f .kind ≡ 3 → headOf f .width ≡ 0 → ⊥
+signed-after fNull e z = omega arith
+signed-after (fBool false) e z = omega arith
+signed-after (fBool true) e z = omega arith
+signed-after (fInt true one) e z = omega arith
+signed-after (fInt true two) e z = omega arith
+signed-after (fInt true four) e z = omega arith
+signed-after (fInt true eight) e z = omega arith
+signed-after (fInt false w) e z = omega arith
+signed-after (fFloat f one) e z = omega arith
+signed-after (fFloat f two) e z = omega arith
+signed-after (fFloat f four) e z = omega arith
+signed-after (fFloat f eight) e z = omega arith
+signed-after (fTiny b) e z = omega arith
+signed-after (fString x) e z = omega arith
+signed-after (fObject x) e z = omega arith
+signed-after (fArray x) e z = omega arith
+signed-after fReserved e z = omega arith
 
 tiny-inside : (f : Form) → Sound f → headOf f .kind ≡ 5 → (headOf f .width ≡ 0) × (headOf f .tiny < 64)
 tiny-inside fNull h e = absurd (omega arith)
@@ -153,10 +153,10 @@ tiny-inside (fObject x) h e = absurd (omega arith)
 tiny-inside (fArray x) h e = absurd (omega arith)
 tiny-inside fReserved h e = absurd (omega arith)
 
-small-in-byte : (doc : List ℕ) (o width tiny k p : ℕ) → width ≡ 0 → tiny < 64 → ask (sizedAt doc o width tiny) ≡ answers (counted k p) → k < 64
+small-in-byte : (doc : List ℕ) (o width tiny k p : ℕ) → width ≡ 0 → tiny < 64 → ask (sizedAt doc o width tiny) ≡ answers (numeral k p) → k < 64
 unfolding sizedAt choose
 small-in-byte doc o width tiny k p z l e =
-    let w : answers (counted tiny (o + 1)) ≡ answers (counted k p) = rw z at e in
+    let w : answers (numeral tiny (o + 1)) ≡ answers (numeral k p) = rw z at e in
     let d : tiny ≡ k = ap (λ n. n .is) (done-answer w) in
     omega arith
 
@@ -178,24 +178,24 @@ module _ (doc : List ℕ) (at b : ℕ) (h : Head) (hs : h ≡ headOf (formOf b))
       unfolding numberHead choose
       sized-refused l = sym (by-head ∙ rw (ne-eqb (h .kind) 11 n, le-ltb (h .kind) 3 m, lt-ltb 7 (h .kind) l))
 
-      module _ (u : h .kind ≤ 7) (c : Counted) (s : Counts (length doc) (ask (sizedAt doc at (h .width) (h .tiny))) c) where
-        pub payload-refused : (r : Refusal) → c ≡ Counted.Refused r → refuses (r .number) (r .place) ≡ ask (numberBy doc at b (formOf b))
+      module _ (u : h .kind ≤ 7) (c : Numeral) (s : ReadsNumeral (length doc) (ask (sizedAt doc at (h .width) (h .tiny))) c) where
+        pub payload-refused : (r : Refusal) → c ≡ Numeral.Refused r → refuses (r .number) (r .place) ≡ ask (numberBy doc at b (formOf b))
         unfolding numberHead choose
         payload-refused r q = sym (by-head ∙ rw (ne-eqb (h .kind) 11 n, le-ltb (h .kind) 3 m, le-ltb 7 (h .kind) u) (stops _ _ tt (rw q at s)))
 
-        pub payload-told : (k p : ℕ) (r : Asked Bits) → c ≡ Counted.Is k p → r ≡ ask (numberKind at b (h .kind) (h .width) k) → r ≡ ask (numberBy doc at b (formOf b))
+        pub payload-told : (k p : ℕ) (r : Asked Bits) → c ≡ Numeral.Is k p → r ≡ ask (numberKind at b (h .kind) (h .width) k) → r ≡ ask (numberBy doc at b (formOf b))
         unfolding numberHead choose
         payload-told k p r q e =
-            let w : Counts (length doc) (ask (sizedAt doc at (h .width) (h .tiny))) (Counted.Is k p) = rw q at s in
+            let w : ReadsNumeral (length doc) (ask (sizedAt doc at (h .width) (h .tiny))) (Numeral.Is k p) = rw q at s in
             e ∙ sym (by-head ∙ rw (ne-eqb (h .kind) 11 n, le-ltb (h .kind) 3 m, le-ltb 7 (h .kind) u) (then _ _ tt (w .0)))
 
-  module _ (c : Counted) (k p : ℕ) (q : c ≡ Counted.Is k p) where
+  module _ (c : Numeral) (k p : ℕ) (q : c ≡ Numeral.Is k p) where
     pub signed-small : Below (h .width) c → h .kind ≡ 3 → k < 256 ^ h .width
-    signed-small s e = let w : Below (h .width) (Counted.Is k p) = rw q at s in w (λ z. signed-behind (formOf b) (rw hs at e) (rw hs at z))
+    signed-small s e = let w : Below (h .width) (Numeral.Is k p) = rw q at s in w (λ z. signed-after (formOf b) (rw hs at e) (rw hs at z))
 
-    pub tiny-small : Counts (length doc) (ask (sizedAt doc at (h .width) (h .tiny))) c → h .kind ≡ 5 → k < 64
+    pub tiny-small : ReadsNumeral (length doc) (ask (sizedAt doc at (h .width) (h .tiny))) c → h .kind ≡ 5 → k < 64
     tiny-small s e =
-        let w : Counts (length doc) (ask (sizedAt doc at (h .width) (h .tiny))) (Counted.Is k p) = rw q at s in
+        let w : ReadsNumeral (length doc) (ask (sizedAt doc at (h .width) (h .tiny))) (Numeral.Is k p) = rw q at s in
         let (z, l) = tiny-inside (formOf b) (sound b) (rw hs at e) in
         let z' : h .width ≡ 0 = rw hs z in
         let l' : h .tiny < 64 = rw hs l in

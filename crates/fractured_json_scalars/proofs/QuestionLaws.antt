@@ -4,42 +4,42 @@ use mathlib.Core.List.{List}
 use Prim.Native.Nat.{ℕ, _+_, _-_, _≤_, _<_}
 use native.Mathlib.Omega.{arith}
 use borrow.Author.Needs.{needs}
-use lib.Dec.{le→leb}
 use lib.ListN.{length}
 use Rattle.json.specs.Bytes.{part}
 use Rattle.json.specs.Reading.{Asked, ask, answers, refuses, _>>=_}
 use Rattle.json.specs.declared.Refusal.{Refusal}
-use Rattle.json.proofs.Reading.{pass, fail}
+use Rattle.json.proofs.Reading.{then, stops}
 use Rattle.fractured_json_rules.specs.ByteTables.{formOf}
-use Rattle.fractured_json_rules.specs.Questions.{Kind, kindBy, kind, Bits, numberBy, numberAt, stringBy, stringAt, stringBytes}
-use Rattle.fractured_json_values.specs.Opened.{Counts}
-use Rattle.fractured_json_scalars.specs.Asked.{Enters, wantedAt}
+use Rattle.fractured_json_rules.specs.Questions.{Kind, kindBy, kind, Bits, numberBy, numberAt, aString, stringAt, stringBytes}
+use Rattle.fractured_json_values.specs.Opened.{ReadsNumeral}
+use Rattle.fractured_json_scalars.specs.Asked.{Enters, wantedIn}
 use Rattle.fractured_json_answers.specs.Told.{toldText}
 use Rattle.fractured_json_answers.specs.declared.Text.{Text}
 use Rattle.fractured_json_scalars.specs.declared.enter.Entered.{Entered}
-use Rattle.fractured_json_values.specs.declared.values.Counted.{Counted}
-use Rattle.fractured_json_scalars.proofs.Entering.{entered-inside, enters-refused, enters-read, asks-behind, behind-length, length-refused, length-read}
-use Rattle.fractured_json_scalars.proofs.Forms.{stringRest, string-form}
-use Rattle.fractured_json_values.proofs.Opening.{over, counts-inside}
+use Rattle.fractured_json_values.specs.declared.values.Numeral.{Numeral}
+use Rattle.fractured_json_scalars.proofs.Entering.{entered-inside, enters-refused, enters-read, length-refused, length-read}
+use Rattle.fractured_json_values.proofs.Numbering.{text-past}
+use Rattle.fractured_json_rules.proofs.Readers.{text-is}
+use Rattle.fractured_json_values.proofs.Opening.{numeral-inside}
 
 -- ---- its kind, and its number
 
 module _ (doc : List ℕ) (at : ℕ) (e : Entered) (es : Enters doc at e) where
   pub kind-refused : (r : Refusal) → e ≡ Entered.Refused r → refuses (r .number) (r .place) ≡ ask (kind doc at)
   unfolding kind
-  kind-refused r q = sym (asks-behind doc at _ ∙ enters-refused doc at _ e es r q)
+  kind-refused r q = sym (enters-refused doc at _ e es r q)
 
   pub kind-read : (b : ℕ) (r : Asked Kind) → e ≡ Entered.Type b → r ≡ ask (kindBy doc at (formOf b)) → r ≡ ask (kind doc at)
   unfolding kind
-  kind-read b r q h = h ∙ sym (asks-behind doc at _ ∙ enters-read doc at (λ x. kindBy doc at (formOf x)) e es b q)
+  kind-read b r q h = h ∙ sym (enters-read doc at (λ x. kindBy doc at (formOf x)) e es b q)
 
   pub number-refused : (r : Refusal) → e ≡ Entered.Refused r → refuses (r .number) (r .place) ≡ ask (numberAt doc at)
   unfolding numberAt
-  number-refused r q = sym (asks-behind doc at _ ∙ enters-refused doc at _ e es r q)
+  number-refused r q = sym (enters-refused doc at _ e es r q)
 
   pub number-read : (b : ℕ) (r : Asked Bits) → e ≡ Entered.Type b → r ≡ ask (numberBy doc at b (formOf b)) → r ≡ ask (numberAt doc at)
   unfolding numberAt
-  number-read b r q h = h ∙ sym (asks-behind doc at _ ∙ enters-read doc at (λ x. numberBy doc at x (formOf x)) e es b q)
+  number-read b r q h = h ∙ sym (enters-read doc at (λ x. numberBy doc at x (formOf x)) e es b q)
 
 pub ruleset kind-laws = (entered-inside, kind-refused, kind-read, needs)
 
@@ -47,31 +47,25 @@ pub ruleset number-laws = (entered-inside, number-refused, number-read, needs)
 
 -- ---- its string
 
-module _ (doc : List ℕ) (at : ℕ) (c : Counted) (cs : Counts (length doc) (ask (wantedAt doc at 8)) c) where
-  string-behind : ask (stringAt doc at) ≡ ask (wantedAt doc at 8 >>= λ n. stringRest doc at (n .is) (n .past))
+module _ (doc : List ℕ) (at : ℕ) (c : Numeral) (cs : ReadsNumeral (length doc) (ask (wantedIn doc at 8)) c) where
+  pub string-refused : (r : Refusal) → c ≡ Numeral.Refused r → refuses (r .number) (r .place) ≡ ask (stringAt doc at)
   unfolding stringAt
-  string-behind = behind-length doc at 8 (stringBy doc at) (λ n. stringRest doc at (n .is) (n .past)) (string-form doc at)
+  string-refused r q = sym (length-refused doc at aString _ c cs r q)
 
-  pub string-refused : (r : Refusal) → c ≡ Counted.Refused r → refuses (r .number) (r .place) ≡ ask (stringAt doc at)
-  string-refused r q = sym (string-behind ∙ length-refused doc at 8 _ c cs r q)
-
-  module _ (n p : ℕ) (q : c ≡ Counted.Is n p) where
-    text-by : ask (stringAt doc at) ≡ ask (stringRest doc at n p)
-    text-by = string-behind ∙ length-read doc at 8 (λ n. stringRest doc at (n .is) (n .past)) c cs n p q
-
+  module _ (n p : ℕ) (q : c ≡ Numeral.Is n p) where
     pub text-outside : length doc - p < n → refuses 35 at ≡ ask (stringAt doc at)
+    unfolding stringAt
     text-outside h =
-        let i = counts-inside (length doc) _ c n p cs q in
-        let o : length doc < p + n = omega arith in
-        sym (text-by ∙ fail _ _ _ _ tt (over o))
+        let i = numeral-inside (length doc) _ c n p cs q in
+        sym (length-read doc at aString _ c cs n p q ∙ stops _ _ tt (text-past doc at _ tt (omega arith)))
 
     pub text-inside : n ≤ length doc - p → answers (record { place = p; len = n }) ≡ ask (stringAt doc at)
+    unfolding stringAt
     text-inside h =
-        let i = counts-inside (length doc) _ c n p cs q in
-        let o : p + n ≤ length doc = omega arith in
-        sym (text-by ∙ pass _ _ _ _ tt (le→leb _ _ o))
+        let i = numeral-inside (length doc) _ c n p cs q in
+        sym (length-read doc at aString _ c cs n p q ∙ then _ _ tt (text-is doc at _ tt (omega arith)))
 
-pub ruleset string-laws = (counts-inside, string-refused, text-outside, text-inside, needs)
+pub ruleset string-laws = (numeral-inside, string-refused, text-outside, text-inside, needs)
 
 -- and its text
 module _ (doc : List ℕ) (at : ℕ) (t : Text) (ts : toldText t ≡ ask (stringAt doc at)) where

@@ -9,32 +9,27 @@ use lib.ListN.{length}
 use Rattle.json.specs.Choose.{choose}
 use Rattle.json.specs.Reading.{Reading, ask, answers, refuses, answer, refuse, _>>=_, _>>_, need}
 use Rattle.fractured_json_rules.specs.ByteTables.{formOf}
-use Rattle.fractured_json_rules.specs.Verdict.{byteAt, Counted}
-use Rattle.fractured_json_rules.specs.Questions.{opening, Kind, isNull, isFalse, isTrue, isNumber, isString, isObject, isArray, Bits, extended, tinyBits}
+use Rattle.fractured_json_rules.specs.Verdict.{Numeral}
+use Rattle.fractured_json_rules.specs.Questions.{typeAt, Kind, isNull, isFalse, isTrue, isNumber, isString, isObject, isArray, Bits, extended, tinyBits}
 use Rattle.fractured_json_values.specs.Heads.{headOf}
 use Rattle.fractured_json_values.specs.Opened.{sizedAt, finiteKind}
 use Rattle.fractured_json_values.specs.declared.types.Head.{Head}
 use Rattle.fractured_json_scalars.specs.declared.enter.Entered.{Entered}
 
--- ---- before every question but the end: the type byte at the cursor
-
-unfoldable pub entering : {S : Type 0} → List ℕ → ℕ → Reading S ℕ
-entering doc c = do
-  opening doc c
-  byteAt doc c c
+-- ---- the type byte at the cursor
 
 abbrev pub Enters : List ℕ → ℕ → Entered → Type 0
-Enters doc c (Entered.Type b) = (ask (entering doc c) ≡ answers b) × (c < length doc)
-Enters doc c (Entered.Refused r) = ask (entering doc c) ≡ refuses (r .number) (r .place)
+Enters doc c (Entered.Type b) = (ask (typeAt doc c) ≡ answers b) × (c < length doc)
+Enters doc c (Entered.Refused r) = ask (typeAt doc c) ≡ refuses (r .number) (r .place)
 
 -- ---- the length of a string (8), object (9) or array (10), and where what it measures starts; 21 of any other kind
 
-unfoldable pub wantedHead : {S : Type 0} → List ℕ → ℕ → ℕ → Head → Reading S Counted
+unfoldable pub wantedHead : {S : Type 0} → List ℕ → ℕ → ℕ → Head → Reading S Numeral
 wantedHead doc c want h = choose (eqb (h .kind) 11) (refuse 36 c) (choose (eqb (h .kind) want) (sizedAt doc c (h .width) (h .tiny)) (refuse 21 c))
 
-unfoldable pub wantedAt : {S : Type 0} → List ℕ → ℕ → ℕ → Reading S Counted
-wantedAt doc c want = do
-  b ← entering doc c
+unfoldable pub wantedIn : {S : Type 0} → List ℕ → ℕ → ℕ → Reading S Numeral
+wantedIn doc c want = do
+  b ← typeAt doc c
   wantedHead doc c want (headOf (formOf b))
 
 -- ---- kinds

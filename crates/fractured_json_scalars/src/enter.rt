@@ -1,7 +1,7 @@
 // What every question reads first: the header, the cursor, and the type byte that stands there.
 use fractured_json_values::header::read_header;
 use fractured_json_values::types::head_of;
-use fractured_json_values::values::Counted;
+use fractured_json_values::values::Numeral;
 use fractured_json_values::values::sized;
 use json::Refusal;
 use json::Verdict;
@@ -9,8 +9,8 @@ ghost use mathlib.Core.Path.{_≡_};
 ghost use lib.ListN.{length};
 ghost use Rattle.json.specs.Reading.{ask, told};
 ghost use Rattle.fractured_json_rules.specs.Questions.{opening};
-ghost use Rattle.fractured_json_values.specs.Opened.{Counts};
-ghost use Rattle.fractured_json_scalars.specs.Asked.{Enters, wantedAt};
+ghost use Rattle.fractured_json_values.specs.Opened.{ReadsNumeral};
+ghost use Rattle.fractured_json_scalars.specs.Asked.{Enters, wantedIn};
 
 // 31 to 34, then 20 for a cursor under 3.
 pub fn open_question(doc: &[u8], at: usize) -> Verdict
@@ -56,17 +56,17 @@ pub(crate) fn enter(doc: &[u8], at: usize) -> Entered
 }
 
 // The length of the string, object or array at the cursor, by the kind that is wanted; 21 of any other kind.
-pub fn wanted(doc: &[u8], at: usize, want: u8) -> Counted
-    ensures { λ r. ⌜ Counts (length (now (doc .entry))) (ask (wantedAt (now (doc .entry)) at want)) r ⌝ }
+pub fn wanted(doc: &[u8], at: usize, want: u8) -> Numeral
+    ensures { λ r. ⌜ ReadsNumeral (length (now (doc .entry))) (ask (wantedIn (now (doc .entry)) at want)) r ⌝ }
 {
     let e = enter(doc, at);
     match e {
-        Entered::Refused(r) => Counted::Refused(r),
+        Entered::Refused(r) => Numeral::Refused(r),
         Entered::Type(b) => {
             let h = head_of(b);
             let kind = h.kind;
             if kind == 11 {
-                return Counted::Refused(Refusal {
+                return Numeral::Refused(Refusal {
                     number: 36,
                     place: at,
                 });
@@ -74,7 +74,7 @@ pub fn wanted(doc: &[u8], at: usize, want: u8) -> Counted
             if kind == want {
                 return sized(doc, at, h.width, h.tiny);
             }
-            Counted::Refused(Refusal {
+            Numeral::Refused(Refusal {
                 number: 21,
                 place: at,
             })

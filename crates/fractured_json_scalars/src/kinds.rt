@@ -1,7 +1,7 @@
 // A value's kind.
 use fractured_json_answers::Kind;
 use fractured_json_values::types::head_of;
-use fractured_json_values::values::Counted;
+use fractured_json_values::values::Numeral;
 use fractured_json_values::values::sized;
 use json::Refusal;
 ghost use mathlib.Core.Path.{_≡_};
@@ -60,7 +60,7 @@ pub(crate) fn kind_of(doc: &[u8], at: usize, b: u8) -> Kind
     }
     let n = sized(doc, at, h.width, h.tiny);
     match n {
-        Counted::Refused(r) => Kind::Refused(r),
-        Counted::Is { number, past: _ } => sized_kind(kind, number),
+        Numeral::Refused(r) => Kind::Refused(r),
+        Numeral::Is { number, past: _ } => sized_kind(kind, number),
     }
 }

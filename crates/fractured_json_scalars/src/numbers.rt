@@ -1,7 +1,7 @@
 // A number's 64 bits.
 use fractured_json_answers::Number;
 use fractured_json_values::types::head_of;
-use fractured_json_values::values::Counted;
+use fractured_json_values::values::Numeral;
 use fractured_json_values::values::is_finite;
 use fractured_json_values::values::sized;
 use json::Refusal;
@@ -120,7 +120,7 @@ pub(crate) fn number_of(doc: &[u8], at: usize, b: u8) -> Number
     }
     let n = sized(doc, at, h.width, h.tiny);
     match n {
-        Counted::Refused(r) => Number::Refused(r),
-        Counted::Is { number, past: _ } => number_kind(at, b, kind, h.width, number),
+        Numeral::Refused(r) => Number::Refused(r),
+        Numeral::Is { number, past: _ } => number_kind(at, b, kind, h.width, number),
     }
 }

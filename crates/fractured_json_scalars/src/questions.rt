@@ -9,7 +9,7 @@ use fractured_json_answers::Kind;
 use fractured_json_answers::Number;
 use fractured_json_answers::Text;
 use fractured_json_values::texts::text_of;
-use fractured_json_values::values::Counted;
+use fractured_json_values::values::Numeral;
 use json::Refusal;
 ghost use mathlib.Core.Path.{_≡_};
 ghost use Rattle.json.specs.Reading.{ask};
@@ -47,8 +47,8 @@ pub fn string(doc: &[u8], at: usize) -> Text
 {
     let n = wanted(doc, at, STRING);
     match n {
-        Counted::Refused(r) => Text::Refused(r),
-        Counted::Is { number, past } => {
+        Numeral::Refused(r) => Text::Refused(r),
+        Numeral::Is { number, past } => {
             if doc.len() - past < number {
                 return Text::Refused(Refusal {
                     number: 35,

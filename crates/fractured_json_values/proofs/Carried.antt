@@ -6,8 +6,8 @@ use Prim.Native.Nat.{ℕ}
 use lib.Dec.{ltb, eqb}
 use Rattle.json.specs.Choose.{choose}
 use Rattle.json.specs.Reading.{Outcome, halt, done, Reading, Asked, ask, answers, refuses, follow, _>>=_, need}
-use Rattle.fractured_json_rules.specs.ByteTables.{Index, inByte, spelled, formOf}
-use Rattle.fractured_json_rules.specs.Verdict.{byteAt, payload, Counted, afterSecond, afterFirst, indexAt, header}
+use Rattle.fractured_json_rules.specs.ByteTables.{KeyNumber, inByte, spelled, formOf}
+use Rattle.fractured_json_rules.specs.Verdict.{byteAt, payload, Numeral, afterSecond, afterFirst, keyNumberAt, header}
 use Rattle.fractured_json_values.specs.Heads.{headOf}
 use Rattle.fractured_json_values.specs.Opened.{sizedAt, Opened, openKind, openHead, openedAt}
 use Rattle.fractured_json_values.specs.declared.types.Head.{Head}
@@ -52,16 +52,16 @@ module _ {S : Type 0} where
     carry-first o b0 true s = refl
     carry-first o b0 false s = carry-then _ _ _ _ s (carry-byte _ _ s) (λ b1. carry-second o b0 b1 (ltb b1 128) s)
 
-    pub carry-index : (o : ℕ) (x : Index) (s : S) → indexAt doc o x s ≡ carry s (ask (indexAt doc o x))
-    unfolding indexAt
-    carry-index o (inByte n) s = refl
-    carry-index o spelled s = carry-then _ _ _ _ s (carry-byte _ _ s) (λ b0. carry-first o b0 (ltb b0 128) s)
+    pub carry-key-number : (o : ℕ) (x : KeyNumber) (s : S) → keyNumberAt doc o x s ≡ carry s (ask (keyNumberAt doc o x))
+    unfolding keyNumberAt
+    carry-key-number o (inByte n) s = refl
+    carry-key-number o spelled s = carry-then _ _ _ _ s (carry-byte _ _ s) (λ b0. carry-first o b0 (ltb b0 128) s)
 
-    pub index-done : (o : ℕ) (x : Index) (n : Counted) (s : S) → ask (indexAt doc o x) ≡ answers n → indexAt doc o x s ≡ done n s
-    index-done o x n s e = carry-index o x s ∙ rw e
+    pub key-number-done : (o : ℕ) (x : KeyNumber) (n : Numeral) (s : S) → ask (keyNumberAt doc o x) ≡ answers n → keyNumberAt doc o x s ≡ done n s
+    key-number-done o x n s e = carry-key-number o x s ∙ rw e
 
-    pub index-halts : (o : ℕ) (x : Index) (n p : ℕ) (s : S) → ask (indexAt doc o x) ≡ refuses n p → indexAt doc o x s ≡ halt n p s
-    index-halts o x n p s e = carry-index o x s ∙ rw e
+    pub key-number-halts : (o : ℕ) (x : KeyNumber) (n p : ℕ) (s : S) → ask (keyNumberAt doc o x) ≡ refuses n p → keyNumberAt doc o x s ≡ halt n p s
+    key-number-halts o x n p s e = carry-key-number o x s ∙ rw e
 
     -- ---- a value up to a container's contents
 
@@ -73,7 +73,7 @@ module _ {S : Type 0} where
 
     carry-sized : (o w t : ℕ) (s : S) → sizedAt doc o w t s ≡ carry s (ask (sizedAt doc o w t))
     unfolding sizedAt
-    carry-sized o w t s = carry-choose (eqb w 0) _ _ _ _ s refl (carry-then _ _ _ _ s (carry-payload _ _ s) (λ n. refl))
+    carry-sized o w t s = carry-choose (eqb w 0) _ _ _ _ s refl (carry-payload _ _ s)
 
     carry-kind : (len o kind n past : ℕ) (s : S) → openKind len o kind n past s ≡ carry s (ask (openKind len o kind n past))
     unfolding openKind

@@ -6,3 +6,4 @@ pub mod Carried
 pub mod Forms
 pub mod Walks
 pub mod Headers
+pub mod KeyHeads

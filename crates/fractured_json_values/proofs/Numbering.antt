@@ -1,4 +1,4 @@
--- The number of a key, one law for each way through `index_at`, `spelled_at` and `after_first`.
+-- The number that a key byte carries, one law for each way through `key_number_at`, `spelled_at` and `after_first`.
 use mathlib.Core.Path.{_≡_, refl, ap, _∙_}
 use mathlib.Core.Bool.{false}
 use mathlib.Core.List.{List}
@@ -8,37 +8,42 @@ use borrow.Author.Needs.{needs}
 use borrow.Author.Tests.{lt-ltb, le-ltb}
 use lib.Dec.{ltb, le→leb, ltb→lt}
 use lib.ListN.{length, getD}
-use Rattle.json.specs.Reading.{ask, answers, refuses}
+use Rattle.json.specs.Reading.{halt, ask, answers, refuses}
 use Rattle.json.proofs.Reading.{then, stops, pass, fail}
 use Rattle.fractured_json_rules.specs.ByteTables.{spelled}
-use Rattle.fractured_json_rules.specs.Verdict.{byteAt, counted, afterSecond, afterFirst, indexAt}
+use Rattle.fractured_json_rules.specs.Verdict.{byteAt, textAt, numeral, afterSecond, afterFirst, keyNumberAt}
+use Rattle.fractured_json_rules.specs.Verdict as Rules
 use Rattle.fractured_json_rules.proofs.Readers.{byte-is}
-use Rattle.fractured_json_values.specs.Opened.{Counts}
-use Rattle.fractured_json_values.specs.Heads.{indexBy}
-use Rattle.fractured_json_values.specs.declared.values.Counted.{Counted}
+use Rattle.fractured_json_values.specs.Opened.{ReadsNumeral}
+use Rattle.fractured_json_values.specs.Heads.{keyNumberBy}
+use Rattle.fractured_json_values.specs.declared.values.Numeral.{Numeral}
 use Rattle.fractured_json_values.proofs.Opening.{over}
 
-pub byte-past : (doc : List ℕ) (o p : ℕ) → length doc ≤ o → ask (byteAt doc o p) ≡ refuses 35 p
+pub byte-past : {S : Type 0} (doc : List ℕ) (o p : ℕ) (s : S) → length doc ≤ o → byteAt doc o p s ≡ halt 35 p s
 unfolding byteAt
-byte-past doc o p h = fail _ _ _ _ tt (λ t. let l = ltb→lt o (length doc) t in omega arith)
+byte-past doc o p s h = fail _ _ _ _ s (λ t. let l = ltb→lt o (length doc) t in omega arith)
+
+pub text-past : {S : Type 0} (doc : List ℕ) (o : ℕ) (n : Rules.Numeral) (s : S) → length doc < n .past + n .is → textAt doc o n s ≡ halt 35 o s
+unfolding textAt
+text-past doc o n s h = fail _ _ _ _ s (over h)
 
 module _ (doc : List ℕ) (at : ℕ) where
   -- ---- the first byte
 
-  pub first-short : at < length doc → length doc - at ≤ 1 → ask (indexAt doc at spelled) ≡ refuses 35 at
-  unfolding indexAt
-  first-short i h = stops _ _ tt (byte-past doc (at + 1) at (omega arith))
+  pub first-short : at < length doc → length doc - at ≤ 1 → ask (keyNumberAt doc at spelled) ≡ refuses 35 at
+  unfolding keyNumberAt
+  first-short i h = stops _ _ tt (byte-past doc (at + 1) at tt (omega arith))
 
   module _ (b0 : ℕ) (i : at < length doc) (h : 1 < length doc - at) (e : b0 ≡ getD doc (at + 1) 0) where
-    first : ask (indexAt doc at spelled) ≡ ask (afterFirst doc at b0 (ltb b0 128))
-    unfolding indexAt
+    first : ask (keyNumberAt doc at spelled) ≡ ask (afterFirst doc at b0 (ltb b0 128))
+    unfolding keyNumberAt
     first = then _ _ tt (byte-is doc (at + 1) at tt (omega arith)) ∙ rw e
 
-    pub first-last : b0 < 128 → ask (indexAt doc at spelled) ≡ answers (counted b0 (at + 2))
+    pub first-last : b0 < 128 → ask (keyNumberAt doc at spelled) ≡ answers (numeral b0 (at + 2))
     unfolding afterFirst
     first-last l = first ∙ rw (lt-ltb b0 128 l)
 
-    pub first-more : (c : Counted) → 128 ≤ b0 → Counts (length doc) (ask (afterFirst doc at b0 false)) c → Counts (length doc) (ask (indexAt doc at spelled)) c
+    pub first-more : (c : Numeral) → 128 ≤ b0 → ReadsNumeral (length doc) (ask (afterFirst doc at b0 false)) c → ReadsNumeral (length doc) (ask (keyNumberAt doc at spelled)) c
     first-more c l s = rw (first ∙ ap (λ b. ask (afterFirst doc at b0 b)) (le-ltb b0 128 l)) s
 
   -- ---- the second and the third
@@ -46,14 +51,14 @@ module _ (doc : List ℕ) (at : ℕ) where
   module _ (b0 : ℕ) where
     pub second-short : at + 1 < length doc → length doc - at ≤ 2 → ask (afterFirst doc at b0 false) ≡ refuses 35 at
     unfolding afterFirst
-    second-short i h = stops _ _ tt (byte-past doc (at + 2) at (omega arith))
+    second-short i h = stops _ _ tt (byte-past doc (at + 2) at tt (omega arith))
 
     module _ (b1 : ℕ) (i : at + 1 < length doc) (h : 2 < length doc - at) (e : b1 ≡ getD doc (at + 2) 0) where
       second : ask (afterFirst doc at b0 false) ≡ ask (afterSecond doc at b0 b1 (ltb b1 128))
       unfolding afterFirst
       second = then _ _ tt (byte-is doc (at + 2) at tt (omega arith)) ∙ rw e
 
-      pub second-last : b1 < 128 → ask (afterFirst doc at b0 false) ≡ answers (counted (b0 - 128 + 128 * b1) (at + 3))
+      pub second-last : b1 < 128 → ask (afterFirst doc at b0 false) ≡ answers (numeral (b0 - 128 + 128 * b1) (at + 3))
       unfolding afterSecond
       second-last l = second ∙ rw (lt-ltb b1 128 l)
 
@@ -63,29 +68,29 @@ module _ (doc : List ℕ) (at : ℕ) where
 
         pub third-short : length doc - at ≤ 3 → ask (afterFirst doc at b0 false) ≡ refuses 35 at
         unfolding afterSecond
-        third-short l = second-more ∙ stops _ _ tt (byte-past doc (at + 3) at (omega arith))
+        third-short l = second-more ∙ stops _ _ tt (byte-past doc (at + 3) at tt (omega arith))
 
         module _ (b2 : ℕ) (k : 3 < length doc - at) (f : b2 ≡ getD doc (at + 3) 0) where
           pub third-wide : 3 < b2 → ask (afterFirst doc at b0 false) ≡ refuses 37 (at + 3)
           unfolding afterSecond
           third-wide l = second-more ∙ (then _ _ tt (byte-is doc (at + 3) at tt (omega arith)) ∙ rw (← f) (fail _ _ _ _ tt (over l)))
 
-          pub third-last : b2 ≤ 3 → ask (afterFirst doc at b0 false) ≡ answers (counted (b0 - 128 + 128 * (b1 - 128) + 16_384 * b2) (at + 4))
+          pub third-last : b2 ≤ 3 → ask (afterFirst doc at b0 false) ≡ answers (numeral (b0 - 128 + 128 * (b1 - 128) + 16_384 * b2) (at + 4))
           unfolding afterSecond
           third-last l = second-more ∙ (then _ _ tt (byte-is doc (at + 3) at tt (omega arith)) ∙ rw (← f) (pass _ _ _ _ tt (le→leb _ _ l)))
 
-  -- ---- in the key byte, or behind it
+  -- ---- in the key byte, or after it
 
-  pub index-in-byte : (s n : ℕ) → s ≡ 0 → ask (indexAt doc at (indexBy s n)) ≡ answers (counted n (at + 1))
-  unfolding indexAt
-  index-in-byte s n e = rw e
+  pub key-number-in-byte : (s n : ℕ) → s ≡ 0 → ask (keyNumberAt doc at (keyNumberBy s n)) ≡ answers (numeral n (at + 1))
+  unfolding keyNumberAt
+  key-number-in-byte s n e = rw e
 
-  pub index-spelled : (s n : ℕ) (c : Counted) → (s ≡ 0 → ⊥) → Counts (length doc) (ask (indexAt doc at spelled)) c → Counts (length doc) (ask (indexAt doc at (indexBy s n))) c
-  index-spelled zero n c f h = absurd (f refl)
-  index-spelled (suc s) n c f h = h
+  pub key-number-spelled : (s n : ℕ) (c : Numeral) → (s ≡ 0 → ⊥) → ReadsNumeral (length doc) (ask (keyNumberAt doc at spelled)) c → ReadsNumeral (length doc) (ask (keyNumberAt doc at (keyNumberBy s n))) c
+  key-number-spelled zero n c f h = absurd (f refl)
+  key-number-spelled (suc s) n c f h = h
 
 pub ruleset first-laws = (first-short, first-last, first-more, needs)
 
 pub ruleset later-laws = (second-short, second-last, third-short, third-wide, third-last, needs)
 
-pub ruleset index-laws = (index-in-byte, index-spelled, needs)
+pub ruleset key-number-laws = (key-number-in-byte, key-number-spelled, needs)

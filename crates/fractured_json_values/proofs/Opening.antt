@@ -17,14 +17,14 @@ use Rattle.json.specs.Number.{finite}
 use Rattle.json.specs.Reading.{Outcome, ask, answers, refuses, _>>=_}
 use Rattle.json.proofs.Bytes.{number-small}
 use Rattle.json.proofs.Reading.{then, stops, pass, fail}
-use Rattle.fractured_json_rules.specs.ByteTables.{one, two, four, eight, tiny, behind, Form, fNull, fBool, fInt, fFloat, fTiny, fString, fObject, fArray, fReserved, formOf}
-use Rattle.fractured_json_rules.specs.Verdict.{byteAt, payload, counted}
+use Rattle.fractured_json_rules.specs.ByteTables.{one, two, four, eight, tiny, after, Form, fNull, fBool, fInt, fFloat, fTiny, fString, fObject, fArray, fReserved, formOf}
+use Rattle.fractured_json_rules.specs.Verdict.{byteAt, payload, numeral}
 use Rattle.fractured_json_rules.specs.Verdict as Rules
 use Rattle.fractured_json_rules.proofs.Readers.{byte-is, payload-is}
 use Rattle.fractured_json_values.specs.Heads.{headOf}
-use Rattle.fractured_json_values.specs.Opened.{sizedAt, leaf, inside, finiteKind, finiteAt, FloatInside, FloatWidth, LengthWidth, openKind, openHead, openedAt, Counts, toldOpen}
+use Rattle.fractured_json_values.specs.Opened.{sizedAt, leaf, inside, finiteKind, finiteAt, FloatInside, FloatWidth, LengthWidth, openKind, openHead, openedAt, ReadsNumeral, toldOpen}
 use Rattle.fractured_json_values.specs.declared.types.Head.{Head}
-use Rattle.fractured_json_values.specs.declared.values.Counted.{Counted}
+use Rattle.fractured_json_values.specs.declared.values.Numeral.{Numeral}
 use Rattle.fractured_json_values.specs.declared.values.Open.{Open}
 use Rattle.fractured_json_values.proofs.Forms.{every-form}
 
@@ -61,27 +61,27 @@ width-small (fFloat f two) = omega arith
 width-small (fFloat f four) = omega arith
 width-small (fFloat f eight) = omega arith
 width-small (fString (tiny n)) = omega arith
-width-small (fString (behind one)) = omega arith
-width-small (fString (behind two)) = omega arith
-width-small (fString (behind four)) = omega arith
-width-small (fString (behind eight)) = omega arith
+width-small (fString (after one)) = omega arith
+width-small (fString (after two)) = omega arith
+width-small (fString (after four)) = omega arith
+width-small (fString (after eight)) = omega arith
 width-small (fObject (tiny n)) = omega arith
-width-small (fObject (behind one)) = omega arith
-width-small (fObject (behind two)) = omega arith
-width-small (fObject (behind four)) = omega arith
-width-small (fObject (behind eight)) = omega arith
+width-small (fObject (after one)) = omega arith
+width-small (fObject (after two)) = omega arith
+width-small (fObject (after four)) = omega arith
+width-small (fObject (after eight)) = omega arith
 width-small (fArray (tiny n)) = omega arith
-width-small (fArray (behind one)) = omega arith
-width-small (fArray (behind two)) = omega arith
-width-small (fArray (behind four)) = omega arith
-width-small (fArray (behind eight)) = omega arith
+width-small (fArray (after one)) = omega arith
+width-small (fArray (after two)) = omega arith
+width-small (fArray (after four)) = omega arith
+width-small (fArray (after eight)) = omega arith
 width-small fReserved = omega arith
 
 pub head-width : (h : Head) (f : Form) → h ≡ headOf f → h .width ≤ 8
 head-width h f e = rw e (width-small f)
 
 module _ (doc : List ℕ) (at width tiny : ℕ) where
-  pub in-byte : width ≡ 0 → at < length doc → ask (sizedAt doc at width tiny) ≡ answers (counted tiny (at + 1))
+  pub in-byte : width ≡ 0 → at < length doc → ask (sizedAt doc at width tiny) ≡ answers (numeral tiny (at + 1))
   unfolding sizedAt choose
   in-byte z h = rw z
 
@@ -90,14 +90,14 @@ module _ (doc : List ℕ) (at width tiny : ℕ) where
     unfolding sizedAt choose payload
     short-payload i h =
         let o : length doc < at + 1 + width = omega arith in
-        rw (ne-eqb width 0 more) (stops _ _ tt (fail _ _ _ _ tt (over o)))
+        rw (ne-eqb width 0 more) (fail _ _ _ _ tt (over o))
 
     pub payload-read : (n : ℕ) → at < length doc → width < length doc - at → n ≡ number doc (at + 1) width
-        → ask (sizedAt doc at width tiny) ≡ answers (counted n (at + 1 + width))
+        → ask (sizedAt doc at width tiny) ≡ answers (numeral n (at + 1 + width))
     unfolding sizedAt choose
     payload-read n i h e =
         let o : at + 1 + width ≤ length doc = omega arith in
-        rw (ne-eqb width 0 more, e) (then _ _ tt (payload-is doc at width tt o))
+        rw (ne-eqb width 0 more, e) (payload-is doc at width tt o)
 
     pub payload-small : (n : ℕ) → ((k : ℕ) → Fits w8 (getD doc k 0)) → n ≡ number doc (at + 1) width → n < 256 ^ width
     payload-small n g e = rw e (number-small doc (λ k. g k .fits) (at + 1) width)
@@ -180,7 +180,7 @@ module _ (doc : List ℕ) (at kind : ℕ) (f : FloatInside doc at kind) (short :
 
 pub ruleset finite-at-laws = (binary32-at, binary64-at, no-float-at, high-32, high-64, place-32, place-64, needs)
 
--- ---- a length behind its byte
+-- ---- a length after its byte
 
 module _ (doc : List ℕ) (at width n : ℕ) where
   pub one-byte : width ≡ 1 → n ≡ number doc (at + 1) 1 → n ≡ number doc (at + 1) width
@@ -270,7 +270,7 @@ pub ruleset scalar-laws = (float-inside, number-finite, binary64-finite, number-
 
 -- ---- a value at a place
 
--- a float has the width of its format, and a length behind its byte one, two or four bytes
+-- a float has the width of its format, and a length after its byte one, two or four bytes
 abbrev Widths : ℕ → ℕ → Type 0
 Widths kind width = FloatWidth kind width × (8 ≤ kind → (width ≡ 0 → ⊥) → LengthWidth width)
 
@@ -348,7 +348,7 @@ module _ (doc : List ℕ) (at : ℕ) where
             → toldOpen o ≡ ask (openedAt doc at)
         opened-long n o e q = rw e at q ∙ sym wide
 
-pub counts-inside : (len : ℕ) (q : Outcome (Unit {0}) Rules.Counted) (c : Counted) (n p : ℕ) → Counts len q c → c ≡ Counted.Is n p → p ≤ len
-counts-inside len q c n p s e = let w : Counts len q (Counted.Is n p) = rw e at s in w .1
+pub numeral-inside : (len : ℕ) (q : Outcome (Unit {0}) Rules.Numeral) (c : Numeral) (n p : ℕ) → ReadsNumeral len q c → c ≡ Numeral.Is n p → p ≤ len
+numeral-inside len q c n p s e = let w : ReadsNumeral len q (Numeral.Is n p) = rw e at s in w .1
 
 pub ruleset open-laws = (open-past, opened-tiny, tiny-width, opened-short, float-width, opened-scalar, length-width, opened-long, needs)

@@ -11,9 +11,9 @@ use Rattle.json.specs.Choose.{choose}
 use Rattle.json.specs.Number.{Float, binary32, binary64, finite}
 use Rattle.json.specs.Reading.{Outcome, halt, done, Reading, ask, answers, refuses, answer, follow, _>>=_, need}
 use Rattle.json.proofs.Reading.{then, stops, assoc}
-use Rattle.fractured_json_rules.specs.ByteTables.{Width, one, two, four, eight, bytes, Len, tiny, behind, Form, fNull, fBool, fInt, fFloat, fTiny, fString, fObject, fArray, fReserved, formOf}
-use Rattle.fractured_json_rules.specs.Meaning.{behindLength}
-use Rattle.fractured_json_rules.specs.Verdict.{byteAt, payload, lengthAt, Counted, counted, inTurn, member, valueBy, value}
+use Rattle.fractured_json_rules.specs.ByteTables.{Width, one, two, four, eight, bytes, Len, tiny, after, Form, fNull, fBool, fInt, fFloat, fTiny, fString, fObject, fArray, fReserved, formOf}
+use Rattle.fractured_json_rules.specs.Meaning.{afterLength}
+use Rattle.fractured_json_rules.specs.Verdict.{byteAt, payload, lengthAt, textAt, Numeral, numeral, inTurn, member, valueBy, value}
 use Rattle.fractured_json_values.specs.Heads.{widthIn, tinyIn, headOf}
 use Rattle.fractured_json_values.specs.Opened.{sizedAt, Opened, leaf, inside, finiteKind, openKind, openHead, openedAt, entry}
 use Rattle.fractured_json_values.proofs.Carried.{opened-done, opened-halts}
@@ -62,29 +62,27 @@ module _ {S : Type 0} where
 
   -- ---- lengths and payloads
 
-  module _ (doc : List ℕ) (o : ℕ) {A : Type 0} where
-    pub payload-sized : (w : Width) (f : ℕ → ℕ → Reading S A) (s : S)
-        → (payload doc o (bytes w) >>= λ n. f n (o + 1 + bytes w)) s ≡ (sizedAt doc o (bytes w) 0 >>= λ n. f (n .is) (n .past)) s
-    unfolding sizedAt choose _>>=_ follow
-    payload-sized one f s = sym (assoc (payload doc o 1) (λ n. answer (counted n (o + 1 + 1))) (λ n. f (n .is) (n .past)) s)
-    payload-sized two f s = sym (assoc (payload doc o 2) (λ n. answer (counted n (o + 1 + 2))) (λ n. f (n .is) (n .past)) s)
-    payload-sized four f s = sym (assoc (payload doc o 4) (λ n. answer (counted n (o + 1 + 4))) (λ n. f (n .is) (n .past)) s)
-    payload-sized eight f s = sym (assoc (payload doc o 8) (λ n. answer (counted n (o + 1 + 8))) (λ n. f (n .is) (n .past)) s)
+  module _ (doc : List ℕ) (o : ℕ) where
+    pub payload-sized : (w : Width) → payload {S = S} doc o (bytes w) ≡ sizedAt doc o (bytes w) 0
+    unfolding sizedAt choose
+    payload-sized one = refl
+    payload-sized two = refl
+    payload-sized four = refl
+    payload-sized eight = refl
 
-    pub length-sized : (x : Len) (f : ℕ → ℕ → Reading S A) (s : S)
-        → (lengthAt doc o x >>= λ n. f n (behindLength o x)) s ≡ (sizedAt doc o (widthIn x) (tinyIn x) >>= λ n. f (n .is) (n .past)) s
-    unfolding lengthAt sizedAt choose _>>=_ follow
-    length-sized (tiny n) f s = refl
-    length-sized (behind w) f s = payload-sized w f s
+    pub length-sized : (x : Len) → lengthAt {S = S} doc o x ≡ sizedAt doc o (widthIn x) (tinyIn x)
+    unfolding lengthAt sizedAt choose
+    length-sized (tiny n) = refl
+    length-sized (after w) = payload-sized w
 
   -- ---- a value by its form
 
-  abbrev pub onOpened : (ℕ → ℕ → Reading S ℕ) → (ℕ → ℕ → Reading S ℕ) → Opened → Reading S ℕ
+  abbrev pub onOpened : (Numeral → Reading S ℕ) → (Numeral → Reading S ℕ) → Opened → Reading S ℕ
   onOpened array object (leaf e) = answer e
-  onOpened array object (inside true n at) = object n at
-  onOpened array object (inside false n at) = array n at
+  onOpened array object (inside true n at) = object (numeral n at)
+  onOpened array object (inside false n at) = array (numeral n at)
 
-  module _ (doc : List ℕ) (o : ℕ) (array object : ℕ → ℕ → Reading S ℕ) where
+  module _ (doc : List ℕ) (o : ℕ) (array object : Numeral → Reading S ℕ) where
     -- what is left of a value, once its length or payload n has been read
     abbrev rest : ℕ → ℕ → ℕ → Reading S ℕ
     rest kind n past = openKind (length doc) o kind n past >>= onOpened array object
@@ -97,16 +95,14 @@ module _ {S : Type 0} where
 
     float-form : (w : Width) (s : S) → valueBy doc o array object (fFloat (floatOf w) w) s ≡ (sizedAt doc o (bytes w) 0 >>= λ n. rest (headOf (fFloat (floatOf w) w) .kind) (n .is) (n .past)) s
     unfolding valueBy openKind finiteKind choose
-    float-form one s = payload-sized doc o one (λ n e. need (finite binary32 n) 43 o >>= λ _. answer e) s ∙ then-same {A = Counted} _ _ _ s (λ n z. tested (finite binary32 (n .is)) 43 o (n .past) z)
-    float-form two s = payload-sized doc o two (λ n e. need (finite binary32 n) 43 o >>= λ _. answer e) s ∙ then-same {A = Counted} _ _ _ s (λ n z. tested (finite binary32 (n .is)) 43 o (n .past) z)
-    float-form four s = payload-sized doc o four (λ n e. need (finite binary32 n) 43 o >>= λ _. answer e) s ∙ then-same {A = Counted} _ _ _ s (λ n z. tested (finite binary32 (n .is)) 43 o (n .past) z)
-    float-form eight s = payload-sized doc o eight (λ n e. need (finite binary64 n) 43 o >>= λ _. answer e) s ∙ then-same {A = Counted} _ _ _ s (λ n z. tested (finite binary64 (n .is)) 43 o (n .past) z)
+    float-form one s = rw (payload-sized doc o one) (then-same _ _ _ s (λ n z. tested (finite binary32 (n .is)) 43 o (n .past) z))
+    float-form two s = rw (payload-sized doc o two) (then-same _ _ _ s (λ n z. tested (finite binary32 (n .is)) 43 o (n .past) z))
+    float-form four s = rw (payload-sized doc o four) (then-same _ _ _ s (λ n z. tested (finite binary32 (n .is)) 43 o (n .past) z))
+    float-form eight s = rw (payload-sized doc o eight) (then-same _ _ _ s (λ n z. tested (finite binary64 (n .is)) 43 o (n .past) z))
 
     string-form : (x : Len) (s : S) → valueBy doc o array object (fString x) s ≡ (sizedAt doc o (widthIn x) (tinyIn x) >>= λ n. rest 8 (n .is) (n .past)) s
-    unfolding valueBy openKind choose
-    string-form x s =
-        length-sized doc o x (λ n e. need (leb (e + n) (length doc)) 35 o >>= λ _. answer (e + n)) s
-        ∙ then-same {A = Counted} _ _ _ s (λ n z. tested (leb (n .past + n .is) (length doc)) 35 o (n .past + n .is) z)
+    unfolding valueBy textAt openKind choose
+    string-form x s = rw (length-sized doc o x) (then-same _ _ _ s (λ n z. tested (leb (n .past + n .is) (length doc)) 35 o (n .past + n .is) z))
 
     sized-form : (f : Form) → Sound f → (s : S) → valueBy doc o array object f s ≡ (sizedAt doc o (headOf f .width) (headOf f .tiny) >>= λ n. rest (headOf f .kind) (n .is) (n .past)) s
     unfolding valueBy sizedAt openKind finiteKind choose _>>=_ follow need
@@ -114,12 +110,12 @@ module _ {S : Type 0} where
     sized-form (fBool false) h s = refl
     sized-form (fBool true) h s = refl
     sized-form (fTiny b) h s = refl
-    sized-form (fInt true w) h s = payload-sized doc o w (λ n e. answer e) s
-    sized-form (fInt false w) h s = payload-sized doc o w (λ n e. answer e) s
+    sized-form (fInt true w) h s = ap (λ m. (m >>= λ n. answer (n .past)) s) (payload-sized doc o w)
+    sized-form (fInt false w) h s = ap (λ m. (m >>= λ n. answer (n .past)) s) (payload-sized doc o w)
     sized-form (fFloat f w) h s = rw h (float-form w s)
     sized-form (fString x) h s = string-form x s
-    sized-form (fObject x) h s = length-sized doc o x object s
-    sized-form (fArray x) h s = length-sized doc o x array s
+    sized-form (fObject x) h s = ap (λ m. (m >>= object) s) (length-sized doc o x)
+    sized-form (fArray x) h s = ap (λ m. (m >>= array) s) (length-sized doc o x)
     sized-form fReserved h s = refl
 
     value-form : (f : Form) → Sound f → (s : S) → valueBy doc o array object f s ≡ (openHead doc o (headOf f) >>= onOpened array object) s

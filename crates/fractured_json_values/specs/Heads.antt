@@ -1,21 +1,25 @@
 -- What the constant tables of types.rt say of a type byte and of a key byte: the rules' form, as numbers.
 use Prim.Native.Nat.{ℕ, zero, suc, _-_}
 use mathlib.Core.Bool.{true, false}
-use Rattle.fractured_json_rules.specs.ByteTables.{bytes, Width, one, two, four, eight, Len, tiny, behind, Form, fNull, fBool, fInt, fFloat, fTiny, fString, fObject, fArray, fReserved, Index, inByte, spelled, KeyForm, immediate, backReference, globalIndex, kReserved}
+use lib.Dec.{eqb}
+use Rattle.json.specs.Choose.{choose}
+use Rattle.json.specs.Reading.{Reading, refuse}
+use Rattle.fractured_json_rules.specs.ByteTables.{bytes, Width, one, two, four, eight, Len, tiny, after, Form, fNull, fBool, fInt, fFloat, fTiny, fString, fObject, fArray, fReserved, KeyNumber, inByte, spelled, KeyForm, immediate, backReference, globalIndex, kReserved}
+use Rattle.fractured_json_rules.specs.Verdict.{Numeral}
 use Rattle.fractured_json_values.specs.declared.types.Head.{Head}
 use Rattle.fractured_json_values.specs.declared.types.KeyHead.{KeyHead}
 
 abbrev pub head : ℕ → ℕ → ℕ → Head
 head k w t = record { kind = k; width = w; tiny = t }
 
--- the bytes of a length behind its type byte, and a length in the byte itself
+-- the bytes of a length after its type byte, and a length in the byte itself
 abbrev pub widthIn : Len → ℕ
 widthIn (tiny n) = 0
-widthIn (behind w) = bytes w
+widthIn (after w) = bytes w
 
 abbrev pub tinyIn : Len → ℕ
 tinyIn (tiny n) = n
-tinyIn (behind w) = 0
+tinyIn (after w) = 0
 
 -- a float by its width: four bytes are a binary32, eight a binary64
 abbrev pub floatKind : Width → ℕ
@@ -37,7 +41,7 @@ headOf (fObject x) = head 9 (widthIn x) (tinyIn x)
 headOf (fArray x) = head 10 (widthIn x) (tinyIn x)
 headOf fReserved = head 11 0 0
 
-abbrev pub keyHead : ℕ → Index → KeyHead
+abbrev pub keyHead : ℕ → KeyNumber → KeyHead
 keyHead k (inByte n) = record { kind = k; spelled = 0; number = n }
 keyHead k spelled = record { kind = k; spelled = 1; number = 0 }
 
@@ -47,7 +51,13 @@ keyHeadOf (backReference x) = keyHead 1 x
 keyHeadOf (globalIndex x) = keyHead 2 x
 keyHeadOf kReserved = record { kind = 3; spelled = 0; number = 0 }
 
--- the number of a key, by what the table of key bytes says
-abbrev pub indexBy : ℕ → ℕ → Index
-indexBy zero number = inByte number
-indexBy (suc s) number = spelled
+-- ---- a key, by what the table of key bytes says
+
+-- the number that it carries
+abbrev pub keyNumberBy : ℕ → ℕ → KeyNumber
+keyNumberBy zero number = inByte number
+keyNumberBy (suc s) number = spelled
+
+-- once that has been read: `byLength` goes on with an immediate key, `byIndex` with a back reference
+unfoldable pub numberedBy : {S A : Type 0} → ℕ → (Numeral → Reading S A) → (Numeral → Reading S A) → ℕ → Numeral → Reading S A
+numberedBy o byLength byIndex kind n = choose (eqb kind 0) (byLength n) (choose (eqb kind 1) (byIndex n) (refuse 38 o))

@@ -11,18 +11,18 @@ use Rattle.json.specs.Choose.{choose}
 use Rattle.json.specs.Number.{binary32, binary64, finite}
 use Rattle.json.specs.Reading.{Reading, Asked, answers, refuses, answer, refuse, _>>=_, _>>_, need}
 use Rattle.fractured_json_rules.specs.ByteTables.{formOf}
-use Rattle.fractured_json_rules.specs.Verdict.{byteAt, payload, counted, member}
+use Rattle.fractured_json_rules.specs.Verdict.{byteAt, payload, numeral, member}
 use Rattle.fractured_json_rules.specs.Verdict as Rules
 use Rattle.fractured_json_values.specs.Heads.{headOf}
 use Rattle.fractured_json_values.specs.declared.types.Head.{Head}
-use Rattle.fractured_json_values.specs.declared.values.Counted.{Counted}
-use Rattle.fractured_json_values.specs.declared.values.Counted.the-variants.{Is, Refused}
+use Rattle.fractured_json_values.specs.declared.values.Numeral.{Numeral}
+use Rattle.fractured_json_values.specs.declared.values.Numeral.the-variants.{Is, Refused}
 use Rattle.fractured_json_values.specs.declared.values.Open.{Open}
 use Rattle.fractured_json_values.specs.declared.values.Open.the-variants.{Leaf, Container, Refused as Stopped}
 
--- a length or payload of the value at o, and where that ends: in the type byte (width 0), or in the bytes behind it
-unfoldable pub sizedAt : {S : Type 0} → List ℕ → ℕ → ℕ → ℕ → Reading S Rules.Counted
-sizedAt doc o width tiny = choose (eqb width 0) (answer (counted tiny (o + 1))) (payload doc o width >>= λ n. answer (counted n (o + 1 + width)))
+-- a length or payload of the value at o, and where that ends: in the type byte (width 0), or in the bytes after it
+unfoldable pub sizedAt : {S : Type 0} → List ℕ → ℕ → ℕ → ℕ → Reading S Rules.Numeral
+sizedAt doc o width tiny = choose (eqb width 0) (answer (numeral tiny (o + 1))) (payload doc o width)
 
 -- a value without contents, by its end; or n values or members from an offset on
 pub data Opened : Type 0 where
@@ -45,7 +45,7 @@ FloatInside doc o kind = (kind ≡ 6 → o + 4 < length doc) × (kind ≡ 7 → 
 unfoldable pub FloatWidth : ℕ → ℕ → Type 0
 FloatWidth kind width = (kind ≡ 6 → width ≡ 4) × (kind ≡ 7 → width ≡ 8)
 
--- a length behind its byte takes one, two or four bytes
+-- a length after its byte takes one, two or four bytes
 unfoldable pub LengthWidth : ℕ → Type 0
 LengthWidth width = (width ≡ 1 → ⊥) → (width ≡ 2 → ⊥) → width ≡ 4
 
@@ -75,12 +75,12 @@ entry false key value = value
 -- ---- what the code answers
 
 -- a number and where it ends, which is inside a document of so many bytes
-abbrev pub Counts : ℕ → Asked Rules.Counted → Counted → Type 0
-Counts len q (Is number past) = (q ≡ answers (counted number past)) × (past ≤ len)
-Counts len q (Refused r) = q ≡ refuses (r .number) (r .place)
+abbrev pub ReadsNumeral : ℕ → Asked Rules.Numeral → Numeral → Type 0
+ReadsNumeral len q (Is number past) = (q ≡ answers (numeral number past)) × (past ≤ len)
+ReadsNumeral len q (Refused r) = q ≡ refuses (r .number) (r .place)
 
 -- a payload of so many bytes is small enough for them
-abbrev pub Below : ℕ → Counted → Type 0
+abbrev pub Below : ℕ → Numeral → Type 0
 Below width (Is number past) = (width ≡ 0 → ⊥) → number < 256 ^ width
 Below width (Refused r) = Unit {0}
 

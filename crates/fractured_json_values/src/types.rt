@@ -1,5 +1,5 @@
 // What a type byte and a key byte stand for, out of constant tables: the ranges of bytes in the order of document 000, and the
-// widths of what stands behind a byte. A byte in no range is reserved.
+// widths of what stands after a byte. A byte in no range is reserved.
 //
 // The ranges are looked up at constant places, so that each test is one comparison with a number.
 ghost use mathlib.Core.Path.{_≡_};
@@ -7,7 +7,7 @@ ghost use Prim.Native.Nat.{_+_, _≤_, _<_};
 ghost use Rattle.fractured_json_rules.specs.ByteTables.{formOf, keyFormOf};
 ghost use Rattle.fractured_json_values.specs.Heads.{headOf, keyHeadOf};
 
-// The ranges of type bytes, by start and length: null, false, true; numbers; strings, objects and arrays with a length behind
+// The ranges of type bytes, by start and length: null, false, true; numbers; strings, objects and arrays with a length after
 // the byte; tiny strings, tiny objects, tiny arrays, tiny ints.
 const STARTS: [u8; 11] = [0, 1, 2, 3, 13, 16, 19, 22, 110, 158, 190];
 
@@ -16,10 +16,10 @@ const LENGTHS: [u8; 11] = [1, 1, 1, 10, 3, 3, 3, 88, 48, 32, 64];
 // The payload widths of the numbers: int8 to uint64, each signed and unsigned, binary32 and binary64.
 const NUMBER_WIDTHS: [u8; 10] = [1, 1, 2, 2, 4, 4, 8, 8, 4, 8];
 
-// The widths of a length behind its byte.
+// The widths of a length after its byte.
 const LENGTH_WIDTHS: [u8; 3] = [1, 2, 4];
 
-// The ranges of key bytes: immediate, back reference and global index with a v_uint16 behind the byte; the same three with the
+// The ranges of key bytes: immediate, back reference and global index with a v_uint16 after the byte; the same three with the
 // number in the byte.
 const KEY_STARTS: [u8; 6] = [0, 1, 2, 3, 87, 171];
 
@@ -53,7 +53,7 @@ fn number_head(i: u8) -> Head
     }
 }
 
-// The i-th of the types with a length behind the byte: three widths each of strings, objects and arrays.
+// The i-th of the types with a length after the byte: three widths each of strings, objects and arrays.
 fn length_head(i: u8) -> Head
     requires { ⌜ i < 9 ⌝ }
     ensures { λ r. ⌜ r ≡ headOf (formOf (i + 13)) ⌝ }
@@ -130,7 +130,7 @@ pub fn head_of(b: u8) -> Head
 }
 
 // What the tables say of a key byte. Kind: 0 immediate, 1 back reference, 2 global index, 3 reserved. Where no v_uint16 is
-// spelled behind the byte, `number` is the byte less the first byte of its range.
+// spelled after the byte, `number` is the byte less the first byte of its range.
 pub struct KeyHead {
     pub kind: u8,
     pub spelled: u8,

@@ -9,33 +9,33 @@ ghost use Rattle.json.specs.Bytes.{number};
 ghost use Rattle.json.specs.Reading.{ask};
 ghost use Rattle.fractured_json_rules.specs.ByteTables.{formOf};
 ghost use Rattle.fractured_json_values.specs.Heads.{headOf};
-ghost use Rattle.fractured_json_values.specs.Opened.{sizedAt, finiteKind, finiteAt, FloatInside, FloatWidth, LengthWidth, openKind, openedAt, Counts, Below, toldOpen};
+ghost use Rattle.fractured_json_values.specs.Opened.{sizedAt, finiteKind, finiteAt, FloatInside, FloatWidth, LengthWidth, openKind, openedAt, ReadsNumeral, Below, toldOpen};
 
 // A number, and where it ends.
-pub enum Counted {
+pub enum Numeral {
     Is { number: usize, past: usize },
     Refused(Refusal),
 }
 
-// The length or payload of the value at a place: in its type byte, or in the bytes behind it.
-pub fn sized(doc: &[u8], at: usize, width: usize, tiny: usize) -> Counted
+// The length or payload of the value at a place: in its type byte, or in the bytes after it.
+pub fn sized(doc: &[u8], at: usize, width: usize, tiny: usize) -> Numeral
     requires { ⌜ (width ≤ 8) × (at < length (now doc)) ⌝ }
-    ensures { λ r. ⌜ Counts (length (now (doc .entry))) (ask (sizedAt (now (doc .entry)) at width tiny)) r × Below width r ⌝ }
+    ensures { λ r. ⌜ ReadsNumeral (length (now (doc .entry))) (ask (sizedAt (now (doc .entry)) at width tiny)) r × Below width r ⌝ }
 {
     if width == 0 {
-        return Counted::Is {
+        return Numeral::Is {
             number: tiny,
             past: at + 1,
         };
     }
     if doc.len() - at <= width {
-        return Counted::Refused(Refusal {
+        return Numeral::Refused(Refusal {
             number: 35,
             place: at,
         });
     }
     let number = word::integer(doc, at + 1, width) as usize;
-    Counted::Is {
+    Numeral::Is {
         number,
         past: at + 1 + width,
     }
@@ -124,7 +124,7 @@ fn finite_at(doc: &[u8], at: usize, kind: u8) -> bool
     true
 }
 
-// The length in the bytes behind the byte at a place.
+// The length in the bytes after the byte at a place.
 fn length_at(doc: &[u8], at: usize, width: usize) -> usize
     requires { ⌜ LengthWidth width × (width < length (now doc) - at) ⌝ }
     ensures { λ r. ⌜ r ≡ number (now (doc .entry)) (at + 1) width ⌝ }

@@ -4,7 +4,7 @@ use Rattle.fractured_json_check.proofs.keys.check_key.Tie as tie
 use Rattle.fractured_json_check.proofs.keys.check_key.Reads as reads
 use Rattle.fractured_json_check.proofs.keys.check_key.Lts as lts
 use Rattle.fractured_json_check.proofs.keys.numbered.Reads as numbered-reads
-use Rattle.fractured_json_values.proofs.index.index_at.Reads as index-at-reads
+use Rattle.fractured_json_values.proofs.key_number.key_number_at.Reads as key-number-at-reads
 use Rattle.fractured_json_values.proofs.types.key_head.Reads as key-head-reads
 
 returns : tie.Need-returns
@@ -19,8 +19,8 @@ key-head-requires c κs = search check-key-laws
 returns-2 : tie.Need-returns-2
 returns-2 c = search check-key-laws
 
-index-at-requires : tie.Need-index-at-requires
-index-at-requires c κs = search check-key-laws
+key-number-at-requires : tie.Need-key-number-at-requires
+key-number-at-requires c κs = search check-key-laws
 
 enum-known-n : tie.Need-enum-known-n
 enum-known-n c = search check-key-laws
@@ -51,7 +51,7 @@ check-key-spec =
     shared-slice-read-key-head
     key-head-requires
     returns-2
-    index-at-requires
+    key-number-at-requires
     enum-known-n
     enum-known-n-2
     numbered-requires

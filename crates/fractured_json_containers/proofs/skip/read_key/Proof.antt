@@ -4,7 +4,7 @@ use Rattle.fractured_json_containers.proofs.skip.read_key.Statement.{st
 use Rattle.fractured_json_containers.proofs.skip.read_key.Tie as tie
 use Rattle.fractured_json_containers.proofs.skip.read_key.Reads as reads
 use Rattle.fractured_json_containers.proofs.skip.read_key.Lts as lts
-use Rattle.fractured_json_values.proofs.index.index_at.Reads as index-at-reads
+use Rattle.fractured_json_values.proofs.key_number.key_number_at.Reads as key-number-at-reads
 use Rattle.fractured_json_containers.proofs.skip.numbered_key.Reads as numbered-key-reads
 use Rattle.fractured_json_values.proofs.types.key_head.Reads as key-head-reads
 
@@ -20,8 +20,8 @@ key-head-requires c κs = search needs
 returns-2 : tie.Need-returns-2
 returns-2 c = search read-key-laws
 
-index-at-requires : tie.Need-index-at-requires
-index-at-requires c κs = search needs
+key-number-at-requires : tie.Need-key-number-at-requires
+key-number-at-requires c κs = search needs
 
 enum-known-n : tie.Need-enum-known-n
 enum-known-n c = search needs
@@ -46,7 +46,7 @@ read-key-spec =
     shared-slice-read-key-head
     key-head-requires
     returns-2
-    index-at-requires
+    key-number-at-requires
     enum-known-n
     enum-known-n-2
     numbered-key-requires

@@ -1,10 +1,10 @@
 use native.Mathlib.Omega.{arith}
 use borrow.Author.Needs.{needs}
 use borrow.Author.Needs.{needs}
-use Rattle.fractured_json_values.proofs.index.byte.Statement.{statement}
-use Rattle.fractured_json_values.proofs.index.byte.Tie as tie
-use Rattle.fractured_json_values.proofs.index.byte.Reads as reads
-use Rattle.fractured_json_values.proofs.index.byte.Lts as lts
+use Rattle.fractured_json_values.proofs.key_number.byte.Statement.{statement}
+use Rattle.fractured_json_values.proofs.key_number.byte.Tie as tie
+use Rattle.fractured_json_values.proofs.key_number.byte.Reads as reads
+use Rattle.fractured_json_values.proofs.key_number.byte.Lts as lts
 
 shared-slice-read-result : tie.Need-shared-slice-read-result
 shared-slice-read-result c = search needs

@@ -1,11 +1,11 @@
 use Rattle.fractured_json_values.proofs.Numbering.{first-laws}
 use borrow.Author.Needs.{needs}
-use Rattle.fractured_json_values.proofs.index.spelled_at.Statement.{statement}
-use Rattle.fractured_json_values.proofs.index.spelled_at.Tie as tie
-use Rattle.fractured_json_values.proofs.index.spelled_at.Reads as reads
-use Rattle.fractured_json_values.proofs.index.spelled_at.Lts as lts
-use Rattle.fractured_json_values.proofs.index.after_first.Reads as after-first-reads
-use Rattle.fractured_json_values.proofs.index.byte.Reads as byte-reads
+use Rattle.fractured_json_values.proofs.key_number.spelled_at.Statement.{statement}
+use Rattle.fractured_json_values.proofs.key_number.spelled_at.Tie as tie
+use Rattle.fractured_json_values.proofs.key_number.spelled_at.Reads as reads
+use Rattle.fractured_json_values.proofs.key_number.spelled_at.Lts as lts
+use Rattle.fractured_json_values.proofs.key_number.after_first.Reads as after-first-reads
+use Rattle.fractured_json_values.proofs.key_number.byte.Reads as byte-reads
 
 sub-if1 : tie.Need-sub-if1
 sub-if1 c = search needs

@@ -1,10 +1,10 @@
 use Rattle.fractured_json_values.proofs.Numbering.{later-laws}
 use borrow.Author.Needs.{needs}
-use Rattle.fractured_json_values.proofs.index.after_first.Statement.{statement}
-use Rattle.fractured_json_values.proofs.index.after_first.Tie as tie
-use Rattle.fractured_json_values.proofs.index.after_first.Reads as reads
-use Rattle.fractured_json_values.proofs.index.after_first.Lts as lts
-use Rattle.fractured_json_values.proofs.index.byte.Reads as byte-reads
+use Rattle.fractured_json_values.proofs.key_number.after_first.Statement.{statement}
+use Rattle.fractured_json_values.proofs.key_number.after_first.Tie as tie
+use Rattle.fractured_json_values.proofs.key_number.after_first.Reads as reads
+use Rattle.fractured_json_values.proofs.key_number.after_first.Lts as lts
+use Rattle.fractured_json_values.proofs.key_number.byte.Reads as byte-reads
 
 sub-if1 : tie.Need-sub-if1
 sub-if1 c = search needs
