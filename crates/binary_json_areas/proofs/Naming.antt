@@ -55,7 +55,7 @@ module _ (doc : List ℕ) (a : Areas) (x : Laid doc a) (v : ℕ) where
 
 pub ruleset slot-named-laws = (before-slots, between-slots, after-slots, a-slot, needs)
 
-pub long-enough : (doc : List ℕ) (a : Areas) → Laid doc a → 8 ≤ length doc
+long-enough : (doc : List ℕ) (a : Areas) → Laid doc a → 8 ≤ length doc
 long-enough doc a x = let f = x .framed in let l = f .least in let i = f .slots-inside in omega arith
 
 module _ (doc : List ℕ) (a : Areas) (x : Laid doc a) (v : ℕ) where
@@ -94,7 +94,7 @@ module _ (doc : List ℕ) (a : Areas) (x : Laid doc a) (v : ℕ) where
         unfolding finite
         finite-number q = (bits-are, λ n p. to-finite n p ∙ need-yes _ _ _ tt (not-T (eqb (number doc v 8 / 2 ^ 52 % 2 ^ 11) (2 ^ 11 - 1)) (unlike (rw bits-are at q))))
 
-pub ruleset number-named-laws = (before-numbers, between-numbers, cut-short, not-finite, finite-number, long-enough, needs)
+pub ruleset number-named-laws = (before-numbers, between-numbers, cut-short, not-finite, finite-number, needs)
 
 -- ---- texts
 

@@ -42,10 +42,7 @@ module _ (doc : List ℕ) (i c : ℕ) (g : Framed doc i c) where
       let q : i + 4 * c ≡ i + 4 + 4 * (c - 1) = omega arith in
       e ∙ (ap (λ o. high doc o) (q ∙ slot-is doc i c (c - 1) g) ∙ last-text (c - 1) f)
 
-  pub last-inside : (c ≡ 0 → ⊥) → i + 4 * c + 4 ≤ length doc
-  last-inside some = let s = g .slots-inside in omega arith
-
-pub ruleset end-laws = (no-texts, last-end, last-inside, needs)
+pub ruleset end-laws = (no-texts, last-end, needs)
 
 -- ---- the areas
 

@@ -1,7 +1,7 @@
 -- The whole check, one law for each way through `check`.
 use mathlib.Core.Path.{_≡_, sym, ap, _∙_}
 use mathlib.Core.List.{List}
-use Prim.Native.Nat.{ℕ, _+_, _-_, _*_, _%_}
+use Prim.Native.Nat.{ℕ, _-_, _%_}
 use native.Mathlib.Omega.{arith}
 use borrow.Author.Needs.{needs}
 use lib.Dec.{eqb}
@@ -9,7 +9,7 @@ use lib.ListN.{length}
 use Rattle.json.specs.Reading.{Reading, ask, answers, refuses, _>>=_, _>>_, need}
 use Rattle.json.specs.declared.Refusal.{Refusal}
 use Rattle.json.proofs.Reading.{eq→eqb, unlike, then, stops, pass, fail, need-yes, need-no}
-use Rattle.binary_json_rules.specs.Areas.{low, index, count, slot, numbers, kindOf}
+use Rattle.binary_json_rules.specs.Areas.{low, index, count, numbers, kindOf}
 use Rattle.binary_json_rules.specs.Verdict.{rootBy, check, verdict}
 use Rattle.binary_json_areas.specs.Laid.{Framed, Headed, Indexes}
 use Rattle.binary_json_check.specs.Slots.{SlotsRead}

@@ -138,9 +138,6 @@ module _ (doc : List ℕ) (a : Areas) (x : Laid doc a) (o : ℕ) where
     pub no-meta : a .index - o < 4 → BodyIs doc o (Body.Refused (record { number = 8; place = o }))
     no-meta h = refused (omega arith)
 
-    pub meta-inside : 4 ≤ a .index - o → o + 4 ≤ a .index
-    meta-inside h = omega arith
-
     module _ (h : 4 ≤ a .index - o) (kind n : ℕ) (ks : kind ≡ low doc o) (ns : n ≡ high doc o) where
       there : T (leb (o + 4) (index doc))
       there = let e = index-is in let q : o + 4 ≤ index doc = omega arith in le→leb _ _ q
@@ -167,7 +164,7 @@ module _ (doc : List ℕ) (a : Areas) (x : Laid doc a) (o : ℕ) where
       unfolding BodyIs
       kind-refused p q child = sym (kind-over child kind p q) ∙ container-by child
 
-pub ruleset body-laws = (past-index, no-meta, meta-inside, array-refused, array-body, kind-refused, needs)
+pub ruleset body-laws = (past-index, no-meta, array-refused, array-body, kind-refused, needs)
 
 module _ (doc : List ℕ) (a : Areas) (x : Laid doc a) (o n : ℕ) (l : o + 4 ≤ a .index) (ns : n ≡ high doc o) (k1 : low doc o ≡ 1) where
   object-by : (child : ℕ → Reading (Unit {0}) ℕ) → ask (containerBy doc child o n kObject) ≡ containerWith doc o child

@@ -2,7 +2,7 @@
 use mathlib.Core.Path.{_≡_, refl, sym, ap, _∙_}
 use mathlib.Core.Bool.{Bool, true, false}
 use mathlib.Core.List.{List, []}
-use Prim.Native.Nat.{ℕ, zero, suc, _+_, _-_, _^_, _≤_, _<_}
+use Prim.Native.Nat.{ℕ, suc, _+_, _-_, _^_, _≤_, _<_}
 use native.Mathlib.Omega.{arith}
 use borrow.Author.Needs.{needs}
 use lib.Dec.{T, ltb, eqb, ltb→lt, leb→le}
@@ -60,7 +60,7 @@ module _ (doc : List ℕ) (a : Areas) (c : ℕ) (x : Placed doc a c) (kind : ℕ
   pub untyped : (kind ≡ 0 → ⊥) → (kind ≡ 1 → ⊥) → (kind ≡ 2 → ⊥) → (kind ≡ 3 → ⊥) → (kind ≡ 4 → ⊥) → (kind ≡ 5 → ⊥) → refuses 21 c ≡ ask (entryType doc c)
   untyped n0 n1 n2 n3 n4 n5 = let h : 6 ≤ kind = omega arith in sym (fail _ _ _ _ tt (past h)) ∙ to-type
 
-pub ruleset type-laws = (place-of, type-stops, meta-inside, typed, untyped, needs)
+pub ruleset type-laws = (place-of, type-stops, typed, untyped, needs)
 
 -- ---- container, number and string
 

@@ -12,7 +12,6 @@ use mir.Val.{Fits}
 use Rattle.json.specs.Bytes.{part}
 use Rattle.json.specs.Choose.{choose}
 use Rattle.json.specs.Reading.{ask, answers, refuses, answer, _>>=_}
-use Rattle.json.specs.Span as Text
 use Rattle.json.specs.Texts.{compareTexts, isEqual}
 use Rattle.json.specs.declared.Order.{Order}
 use Rattle.json.specs.declared.Order.the-variants.{Below, Equal, Above}
@@ -36,7 +35,7 @@ use Rattle.binary_json_lookup.specs.declared.lookup.Halving.{Halving}
 use Rattle.binary_json_areas.specs.declared.named.Texted.{Texted}
 use Rattle.binary_json_metas.specs.declared.Object.{Object}
 use Rattle.binary_json_areas.proofs.Headers.{slot-is}
-use Rattle.binary_json_metas.proofs.Metas.{object-of, object-ends}
+use Rattle.binary_json_metas.proofs.Metas.{object-of}
 
 -- ---- a text against a key
 
@@ -75,10 +74,7 @@ compared-item doc v k x (Compared.Of o) h e = ap compares (h .2) ∙ ap (stringI
 pub string-compared : (doc : List ℕ) (a : Areas) (k : ℕ) (x : List ℕ) (r : Compared) → Laid doc a → k < a .count → TextCompared doc (a .index + 4 + 4 * k) x r → toldItem r ≡ stringItems doc x k
 string-compared doc a k x r l b h = compared-item doc (a .index + 4 + 4 * k) k x r h (λ c. slot-of doc a k c l b)
 
-pub string-fits : (doc : List ℕ) (a : Areas) (k : ℕ) → Laid doc a → k < a .count → Fits w64 (a .index + 4 + 4 * k)
-string-fits doc a k x b = let s = x .framed .slots-inside in let l = x .framed .short in omega arith
-
-pub ruleset string-laws = (string-compared, string-fits, needs)
+pub ruleset string-laws = (string-compared, needs)
 
 -- ---- halving
 
@@ -147,18 +143,6 @@ pub strings-first : (doc x : List ℕ) (a : Areas) → Going (stringItems doc x)
 strings-first doc x a = going-first (stringItems doc x) (a .count)
 
 module _ (doc x : List ℕ) (a : Areas) (l : Laid doc a) (low high turns : ℕ) (g : Going (stringItems doc x) (a .count) low high turns) where
-  pub middle-string : low < high → middle low high < a .count
-  middle-string h = let u = g .upto in omega arith
-
-  pub turns-fit : low < high → Fits w64 (turns + 1)
-  turns-fit h = let w = g .few in let s = l .framed .slots-inside in let b = l .framed .short in omega arith
-
-  pub middle-fits : low < high → Fits w64 (middle low high)
-  middle-fits h = let u = g .upto in let s = l .framed .slots-inside in let b = l .framed .short in omega arith
-
-  pub next-fits : low < high → Fits w64 (middle low high + 1)
-  next-fits h = let u = g .upto in let s = l .framed .slots-inside in let b = l .framed .short in omega arith
-
   module _ (h : low < high) (r : Compared) (q : toldItem r ≡ stringItems doc x (middle low high)) where
     pub string-bad : r ≡ Compared.Bad → broken ≡ strings doc x
     string-bad e = going-broken (stringItems doc x) (a .count) low high turns g h (sym q ∙ ap toldItem e) ∙ strings-are doc x a l
@@ -176,35 +160,7 @@ module _ (doc x : List ℕ) (a : Areas) (l : Laid doc a) (low high turns : ℕ) 
   pub string-missed : high ≤ low → missed low turns ≡ strings doc x
   string-missed h = going-missed (stringItems doc x) (a .count) low high turns g h ∙ strings-are doc x a l
 
-  pub missed-within : low ≤ a .count
-  missed-within = let u = g .upto in let o = g .ordered in omega arith
-
-pub ruleset strings-laws = (strings-first, middle-string, turns-fit, middle-fits, next-fits, string-bad, string-below, string-above, string-found, string-missed, missed-within, needs)
-
--- ---- places of an object
-
-module _ (doc : List ℕ) (a : Areas) (c n : ℕ) (x : ObjectAt doc a c n) where
-  pub begin-fits : Fits w64 (c + 4)
-  begin-fits = let z = object-ends doc a c n x in omega arith
-
-  pub keys-fit : Fits w64 (4 * n)
-  keys-fit = let z = object-ends doc a c n x in omega arith
-
-  pub entries-fit : Fits w64 (c + 4 + 4 * n)
-  entries-fit = let z = object-ends doc a c n x in omega arith
-
-  module _ (j : ℕ) (b : j < n) where
-    pub key-inside : c + 4 + 4 * j + 4 ≤ length doc
-    key-inside = let z = object-ends doc a c n x in omega arith
-
-    pub key-fits : Fits w64 (c + 4 + 4 * j)
-    key-fits = let z = object-ends doc a c n x in omega arith
-
-    pub step-fits : Fits w64 (4 * j)
-    step-fits = let z = object-ends doc a c n x in omega arith
-
-    pub entry-fits : Fits w64 (c + 4 + 4 * n + 4 * j)
-    entry-fits = let z = object-ends doc a c n x in omega arith
+pub ruleset strings-laws = (strings-first, string-bad, string-below, string-above, string-found, string-missed, needs)
 
 -- ---- the KeyEntries
 
@@ -212,16 +168,6 @@ pub keys-first : (doc : List ℕ) (c n v : ℕ) → Going (keyItem doc c v) n 0 
 keys-first doc c n v = going-first (keyItem doc c v) n
 
 module _ (doc : List ℕ) (c n v low high turns : ℕ) (g : Going (keyItem doc c v) n low high turns) where
-  pub key-within : low < high → middle low high < n
-  key-within h = let u = g .upto in omega arith
-
-  module _ (a : Areas) (x : ObjectAt doc a c n) (h : low < high) where
-    pub key-turns-fit : Fits w64 (turns + 1)
-    key-turns-fit = let f = g .few in let z = object-ends doc a c n x in omega arith
-
-    pub key-next-fits : Fits w64 (middle low high + 1)
-    key-next-fits = let u = g .upto in let z = object-ends doc a c n x in omega arith
-
   module _ (h : low < high) (w : ℕ) (e : w ≡ word doc (c + 4 + 4 * middle low high)) where
     pub key-found : w ≡ v → found (middle low high) (turns + 1) ≡ keys doc c n v
     key-found q = going-found (keyItem doc c v) n low high turns g h (ap compares (numbers-equal _ _ .1 (sym e ∙ q)))
@@ -235,17 +181,19 @@ module _ (doc : List ℕ) (c n v low high turns : ℕ) (g : Going (keyItem doc c
   pub key-missed : high ≤ low → missed low turns ≡ keys doc c n v
   key-missed h = going-missed (keyItem doc c v) n low high turns g h
 
-  pub key-end-within : low ≤ n
-  key-end-within = let u = g .upto in let o = g .ordered in omega arith
-
-pub ruleset keys-laws = (keys-first, key-inside, key-fits, key-turns-fit, key-next-fits, key-found, key-within, key-below, key-above, key-missed, key-end-within, needs)
+pub ruleset keys-laws = (keys-first, key-found, key-below, key-above, key-missed, needs)
 
 -- ---- the quick lookup
 
-module _ (doc : List ℕ) (a : Areas) (c n k first : ℕ) (x : ObjectAt doc a c n) (b : k < a .count) where
-  pub sought-fits : Fits w64 (a .index + 4 + 4 * k)
-  sought-fits = let s = x .laid .framed .slots-inside in let l = x .laid .framed .short in omega arith
+-- an object ends in the document, which is short
+module _ (doc : List ℕ) (a : Areas) (c n : ℕ) (x : ObjectAt doc a c n) (j : ℕ) (b : j < n) where
+  pub step-fits : Fits w64 (4 * j)
+  step-fits = let i = x .inside in let s = x .laid .framed .slots-inside in let l = x .laid .framed .short in omega arith
 
+  pub entry-fits : Fits w64 (c + 4 + 4 * n + 4 * j)
+  entry-fits = let i = x .inside in let s = x .laid .framed .slots-inside in let l = x .laid .framed .short in omega arith
+
+module _ (doc : List ℕ) (a : Areas) (c n k first : ℕ) (x : ObjectAt doc a c n) (b : k < a .count) where
   module _ (f : Halving) (h : toldHalving f ≡ keys doc c n (a .index + 4 + 4 * k)) where
     from-keys : (y : Halved) → toldHalving f ≡ y → lookupOf (ask (afterKeys c n first y)) ≡ lookupOf (ask (afterKeys c n first (keys doc c n (slot doc k))))
     from-keys y e = ap (λ z. lookupOf (ask (afterKeys c n first z))) (sym e ∙ (h ∙ ap (keys doc c n) (slot-is doc (a .index) (a .count) k (x .laid .framed))))
@@ -265,12 +213,9 @@ module _ (doc : List ℕ) (a : Areas) (c n k first : ℕ) (x : ObjectAt doc a c 
 pub found-within : (f : Halving) (m at turns : ℕ) → Within f m → f ≡ Halving.Found at turns → at < m
 found-within f m at turns w e = rw e at w
 
-pub ruleset look-key-laws = (sought-fits, key-looked, key-not-looked, key-broken, found-within, begin-fits, keys-fit, entries-fit, step-fits, entry-fits, needs)
+pub ruleset look-key-laws = (key-looked, key-not-looked, key-broken, found-within, step-fits, entry-fits, needs)
 
 module _ (doc : List ℕ) (a : Areas) (c n : ℕ) (key : List ℕ) (x : ObjectAt doc a c n) (s : Halving) where
-  pub object-areas : Laid doc a
-  object-areas = x .laid
-
   module _ (h : toldHalving s ≡ strings doc key) where
     to-strings : (y : Halved) → toldHalving s ≡ y → lookupOf (ask (afterStrings doc c n y)) ≡ lookupOf (ask (quickLookup doc c key))
     unfolding quickLookup
@@ -288,7 +233,7 @@ module _ (doc : List ℕ) (a : Areas) (c n : ℕ) (key : List ℕ) (x : ObjectAt
     unfolding afterStrings lookupOf
     string-broken e = to-strings broken (ap toldHalving e)
 
-pub ruleset look-laws = (object-areas, found-within, string-looked, string-not-looked, string-broken, needs)
+pub ruleset look-laws = (found-within, string-looked, string-not-looked, string-broken, needs)
 
 module _ (doc : List ℕ) (c : ℕ) (key : List ℕ) (o : Object) (x : ObjectRead doc c o) where
   pub lookup-stops : (r : Refusal) → o ≡ Object.Refused r → lookup (refuses (r .number) (r .place)) 0 0 ≡ lookupOf (ask (quickLookup doc c key))
@@ -345,4 +290,4 @@ module _ (doc : List ℕ) (c n : ℕ) (key : List ℕ) (j : ℕ) (x : Scanning d
   unfolding scanFrom
   scan-done h = let z : n - j ≡ 0 = let u = x .upto in omega arith in rw z at (x .same)
 
-pub ruleset scan-laws = (scan-first, object-areas, key-inside, key-fits, entries-fit, entry-fits, scan-bad, scan-found, scan-next, scan-done, needs)
+pub ruleset scan-laws = (scan-first, scan-bad, scan-found, scan-next, scan-done, needs)

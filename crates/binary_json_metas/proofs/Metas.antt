@@ -17,7 +17,6 @@ use Rattle.json.proofs.Reading.{eq→eqb, over, past, unlike, then, stops, pass
 use Rattle.binary_json_rules.specs.Areas.{word, low, high, index}
 use Rattle.binary_json_rules.specs.Questions.{body, bodyWords, kindAndSize, element, object, memberAt}
 use Rattle.binary_json_rules.specs.Answers.{sized}
-use Rattle.binary_json_areas.specs.Laid.{Laid}
 use Rattle.binary_json_areas.specs.Naming.{SlotNamed}
 use Rattle.binary_json_areas.specs.Asking.{Placed, Places}
 use Rattle.binary_json_metas.specs.Objects.{ObjectAt, ObjectRead}
@@ -39,20 +38,6 @@ module _ (doc : List ℕ) (c : ℕ) (p : Asking) (x : Places doc c p) where
   pub object-stops : (r : Refusal) → p ≡ Asking.Refused r → ask (object doc c) ≡ refuses (r .number) (r .place)
   unfolding object
   object-stops r e = stops-before doc c _ (rw e at x)
-
--- numbers that a Meta gives fit
-module _ (doc : List ℕ) (a : Areas) (c : ℕ) (x : Placed doc a c) (n : ℕ) (small : n < 2 ^ 27) where
-  bound : c ≤ 65_536
-  bound = let i = x .inside in let s = x .open-at .laid .framed .slots-inside in let l = x .open-at .laid .framed .short in omega arith
-
-  pub body-fits : Fits w64 (c + 4 + 4 * n)
-  body-fits = let b = bound in omega arith
-
-  pub object-fits : Fits w64 (c + 4 + 4 * (2 * n))
-  object-fits = let b = bound in omega arith
-
-pub cursor-fits : (doc : List ℕ) (a : Areas) (c : ℕ) → Placed doc a c → Fits w64 (c + 4)
-cursor-fits doc a c x = let i = x .inside in let s = x .open-at .laid .framed .slots-inside in let l = x .open-at .laid .framed .short in omega arith
 
 module _ (doc : List ℕ) (a : Areas) (c : ℕ) (x : Placed doc a c) (kind n : ℕ) (ks : kind ≡ low doc c) (ns : n ≡ high doc c) where
   index-is : a .index ≡ index doc
@@ -131,32 +116,29 @@ module _ (doc : List ℕ) (a : Areas) (c : ℕ) (x : Placed doc a c) (kind n : �
         pub element-found : i < n → answers (c + 4 + 4 * i) ≡ ask (element doc c i)
         element-found h = sym (pass _ _ _ _ tt (lt→ltb _ _ h)) ∙ to-element
 
-pub element-fits : (doc : List ℕ) (a : Areas) (c : ℕ) (n i : ℕ) → Placed doc a c → c + 4 + 4 * n ≤ a .index → i < n → Fits w64 (c + 4 + 4 * i)
-element-fits doc a c n i x h b = let s = x .open-at .laid .framed .slots-inside in let l = x .open-at .laid .framed .short in omega arith
+pub ruleset kind-laws = (place-of, kind-stops, object-cut, object-sized, kind-over, body-cut, array-sized, scalar-sized, needs)
 
-pub steps-fit : (doc : List ℕ) (a : Areas) (c : ℕ) (n i : ℕ) → Placed doc a c → c + 4 + 4 * n ≤ a .index → i < n → Fits w64 (4 * i)
-steps-fit doc a c n i x h b = let s = x .open-at .laid .framed .slots-inside in let l = x .open-at .laid .framed .short in omega arith
-
-pub ruleset kind-laws = (place-of, kind-stops, meta-inside, cursor-fits, body-fits, object-fits, object-cut, object-sized, kind-over, body-cut, array-sized, scalar-sized, needs)
-
-pub ruleset element-laws = (place-of, element-stops, meta-inside, cursor-fits, body-fits, element-fits, steps-fit, element-of-object, element-of-other, elements-cut, element-past, element-found, needs)
+pub ruleset element-laws = (place-of, element-stops, element-of-object, element-of-other, elements-cut, element-past, element-found, needs)
 
 -- ---- objects
 
 module _ (doc : List ℕ) (c : ℕ) (p : Asking) (y : Places doc c p) (a : Areas) (e : p ≡ Asking.Of a) where
+  here : Placed doc a c
+  here = place-of doc c p y a e
+
   pub object-inside : c + 4 ≤ length doc
-  object-inside = meta-inside doc a c (place-of doc c p y a e)
+  object-inside = meta-inside doc a c here
 
   pub start-fits : Fits w64 (c + 4)
-  start-fits = cursor-fits doc a c (place-of doc c p y a e)
+  start-fits = let i = object-inside in let l = here .open-at .laid .framed .short in omega arith
 
   pub members-fit : (n : ℕ) → n < 2 ^ 27 → Fits w64 (c + 4 + 4 * (2 * n))
-  members-fit n h = object-fits doc a c (place-of doc c p y a e) n h
+  members-fit n h = let i = object-inside in let l = here .open-at .laid .framed .short in omega arith
 
   module _ (kind n : ℕ) (ks : kind ≡ low doc c) (ns : n ≡ high doc c) where
     to-members : ask (need (eqb kind 1) 21 c >>= λ _. body doc c (2 * n) >>= λ _. answer n) ≡ ask (object doc c)
     unfolding object
-    to-members = sym (comes-to doc a c _ (place-of doc c p y a e) ∙ rw (sym ks, sym ns))
+    to-members = sym (comes-to doc a c _ here ∙ rw (sym ks, sym ns))
 
     pub no-object : (kind ≡ 1 → ⊥) → ask (object doc c) ≡ refuses 21 c
     no-object q = sym to-members ∙ fail _ _ _ _ tt (unlike q)
@@ -164,13 +146,13 @@ module _ (doc : List ℕ) (c : ℕ) (p : Asking) (y : Places doc c p) (a : Areas
     module _ (k1 : kind ≡ 1) where
       pub members-cut : a .index < c + 4 + 4 * (2 * n) → ask (object doc c) ≡ refuses 20 c
       unfolding body
-      members-cut h = sym to-members ∙ (pass _ _ _ _ tt (eq→eqb k1) ∙ fail _ _ _ _ tt (over (rw (place-of doc c p y a e .open-at .laid .framed .index-is) at h)))
+      members-cut h = sym to-members ∙ (pass _ _ _ _ tt (eq→eqb k1) ∙ fail _ _ _ _ tt (over (rw (here .open-at .laid .framed .index-is) at h)))
 
       pub an-object : c + 4 + 4 * (2 * n) ≤ a .index → ObjectAt doc a c n
       unfolding body
       an-object h = record {
-        laid = place-of doc c p y a e .open-at .laid;
-        answered = sym to-members ∙ (pass _ _ _ _ tt (eq→eqb k1) ∙ pass _ _ _ _ tt (le→leb _ _ (rw (place-of doc c p y a e .open-at .laid .framed .index-is) at h)));
+        laid = here .open-at .laid;
+        answered = sym to-members ∙ (pass _ _ _ _ tt (eq→eqb k1) ∙ pass _ _ _ _ tt (le→leb _ _ (rw (here .open-at .laid .framed .index-is) at h)));
         inside = h;
       }
 
@@ -181,57 +163,22 @@ pub ruleset object-laws = (object-stops, object-inside, start-fits, members-fit,
 pub object-of : (doc : List ℕ) (c : ℕ) (o : Object) → ObjectRead doc c o → (a : Areas) (n : ℕ) → o ≡ Object.Of a n → ObjectAt doc a c n
 object-of doc c o x a n e = rw e at x
 
--- an object ends in the document, which is short
-pub object-ends : (doc : List ℕ) (a : Areas) (c n : ℕ) → ObjectAt doc a c n → (c + 4 + 4 * (2 * n) + 4 ≤ length doc) × (length doc ≤ 65_536)
-object-ends doc a c n x = let i = x .inside in let s = x .laid .framed .slots-inside in (omega arith, x .laid .framed .short)
-
 pub member-stops : (doc : List ℕ) (c j : ℕ) (o : Object) (r : Refusal) → ObjectRead doc c o → o ≡ Object.Refused r → refuses (r .number) (r .place) ≡ ask (memberAt doc c j)
 unfolding memberAt
 member-stops doc c j o r x e = sym (stops _ _ tt (rw e at x))
 
-module _ (doc : List ℕ) (c j : ℕ) (o : Object) (x : ObjectRead doc c o) (a : Areas) (n : ℕ) (e : o ≡ Object.Of a n) where
-  here : ObjectAt doc a c n
-  here = object-of doc c o x a n e
-
-  ends : (c + 4 + 4 * (2 * n) + 4 ≤ length doc) × (length doc ≤ 65_536)
-  ends = object-ends doc a c n here
-
-  pub object-laid : Laid doc a
-  object-laid = here .laid
-
+module _ (doc : List ℕ) (a : Areas) (c n j : ℕ) (x : ObjectAt doc a c n) where
   pub member-past : n ≤ j → refuses 22 c ≡ ask (memberAt doc c j)
   unfolding memberAt
-  member-past h = sym (then _ _ tt (here .answered) ∙ fail _ _ _ _ tt (past h))
+  member-past h = sym (then _ _ tt (x .answered) ∙ fail _ _ _ _ tt (past h))
 
-  module _ (b : j < n) where
-    pub key-inside : c + 4 + 4 * j + 4 ≤ length doc
-    key-inside = let z = ends in omega arith
+  module _ (b : j < n) (v : ℕ) (vs : v ≡ word doc (c + 4 + 4 * j)) (g : Bool) (named : SlotNamed doc v g) where
+    pub key-refused : g ≡ false → refuses 20 c ≡ ask (memberAt doc c j)
+    unfolding memberAt
+    key-refused q = sym (then _ _ tt (x .answered) ∙ (pass _ _ _ _ tt (lt→ltb _ _ b) ∙ rw (sym vs) (stops _ _ tt ((rw q at named) 20 c))))
 
-    pub key-fits : Fits w64 (c + 4 + 4 * j)
-    key-fits = let z = ends in omega arith
+    pub member-found : g ≡ true → answers (record { slot = v; entry = c + 4 + 4 * n + 4 * j }) ≡ ask (memberAt doc c j)
+    unfolding memberAt
+    member-found q = sym (then _ _ tt (x .answered) ∙ (pass _ _ _ _ tt (lt→ltb _ _ b) ∙ rw (sym vs) (then _ _ tt ((rw q at named) 20 c))))
 
-    pub four-fits : Fits w64 (4 * j)
-    four-fits = let z = ends in omega arith
-
-    pub begin-fits : Fits w64 (c + 4)
-    begin-fits = let z = ends in omega arith
-
-    pub keys-fit : Fits w64 (4 * n)
-    keys-fit = let z = ends in omega arith
-
-    pub entries-fit : Fits w64 (c + 4 + 4 * n)
-    entries-fit = let z = ends in omega arith
-
-    pub entry-fits : Fits w64 (c + 4 + 4 * n + 4 * j)
-    entry-fits = let z = ends in omega arith
-
-    module _ (v : ℕ) (vs : v ≡ word doc (c + 4 + 4 * j)) (g : Bool) (named : SlotNamed doc v g) where
-      pub key-refused : g ≡ false → refuses 20 c ≡ ask (memberAt doc c j)
-      unfolding memberAt
-      key-refused q = sym (then _ _ tt (here .answered) ∙ (pass _ _ _ _ tt (lt→ltb _ _ b) ∙ rw (sym vs) (stops _ _ tt ((rw q at named) 20 c))))
-
-      pub member-found : g ≡ true → answers (record { slot = v; entry = c + 4 + 4 * n + 4 * j }) ≡ ask (memberAt doc c j)
-      unfolding memberAt
-      member-found q = sym (then _ _ tt (here .answered) ∙ (pass _ _ _ _ tt (lt→ltb _ _ b) ∙ rw (sym vs) (then _ _ tt ((rw q at named) 20 c))))
-
-pub ruleset member-laws = (member-stops, object-laid, member-past, key-inside, key-fits, four-fits, begin-fits, keys-fit, entries-fit, entry-fits, key-refused, member-found, needs)
+pub ruleset member-laws = (object-of, member-stops, member-past, key-refused, member-found, needs)

@@ -12,7 +12,7 @@ ghost use Rattle.json.specs.Reading.{ask};
 ghost use Rattle.binary_json_rules.specs.Questions.{kindAndSize, element, memberAt};
 ghost use Rattle.binary_json_areas.specs.Asking.{Placed};
 ghost use Rattle.binary_json_answers.specs.Told.{toldSized, toldTree, toldMember};
-ghost use Rattle.binary_json_metas.specs.Objects.{ObjectRead};
+ghost use Rattle.binary_json_metas.specs.Objects.{ObjectAt, ObjectRead};
 
 fn measure(doc: &[u8], a: Areas, c: usize) -> Sized
     requires { ⌜ Placed (now doc) a c ⌝ }
@@ -140,6 +140,30 @@ pub fn object_at(doc: &[u8], c: usize) -> Object
     }
 }
 
+fn member_at(doc: &[u8], a: Areas, c: usize, n: usize, j: usize) -> MemberAt
+    requires { ⌜ ObjectAt (now doc) a c n ⌝ }
+    ensures { λ r. ⌜ toldMember r ≡ ask (memberAt (now (doc .entry)) c j) ⌝ }
+{
+    if n <= j {
+        return MemberAt::Refused(Refusal {
+            number: 22,
+            place: c,
+        });
+    }
+    let v = binary_json_areas::areas::word_at(doc, c + 4 + 4 * j);
+    let good = binary_json_areas::named::slot_named(doc, a, SlotOffset(v));
+    if good {
+        return MemberAt::At {
+            slot: SlotOffset(v),
+            entry: TreeOffset(c + 4 + 4 * n + 4 * j),
+        };
+    }
+    MemberAt::Refused(Refusal {
+        number: 20,
+        place: c,
+    })
+}
+
 // The slot and the Entry of member j of the object at the cursor.
 pub fn member(doc: &[u8], cursor: TreeOffset, j: usize) -> MemberAt
     ensures { λ r. ⌜ toldMember r ≡ ask (memberAt (now (doc .entry)) (cursor .0) j) ⌝ }
@@ -148,25 +172,6 @@ pub fn member(doc: &[u8], cursor: TreeOffset, j: usize) -> MemberAt
     let o = object_at(doc, c);
     match o {
         Object::Refused(r) => MemberAt::Refused(r),
-        Object::Of(a, n) => {
-            if n <= j {
-                return MemberAt::Refused(Refusal {
-                    number: 22,
-                    place: c,
-                });
-            }
-            let v = binary_json_areas::areas::word_at(doc, c + 4 + 4 * j);
-            let good = binary_json_areas::named::slot_named(doc, a, SlotOffset(v));
-            if good {
-                return MemberAt::At {
-                    slot: SlotOffset(v),
-                    entry: TreeOffset(c + 4 + 4 * n + 4 * j),
-                };
-            }
-            MemberAt::Refused(Refusal {
-                number: 20,
-                place: c,
-            })
-        }
+        Object::Of(a, n) => member_at(doc, a, c, n, j),
     }
 }

@@ -1,10 +1,9 @@
 -- BinaryJson: what each case of an answer hands over.
 use mathlib.Core.Path.{_≡_}
-use mathlib.Core.List.{List, [], _∷_}
+use mathlib.Core.List.{List}
 use Prim.Native.Nat.{ℕ}
 use borrow.Author.Needs.{needs}
 use Rattle.json.specs.Reading.{told}
-use Rattle.json.specs.declared.Refusal.{Refusal}
 use Rattle.json.specs.declared.Verdict.{Verdict}
 use Rattle.binary_json_answers.specs.declared.Sized.{Sized}
 use Rattle.binary_json_answers.specs.declared.TreeAt.{TreeAt}
@@ -14,11 +13,9 @@ use Rattle.binary_json_answers.specs.declared.Span.{Span}
 use Rattle.binary_json_answers.specs.declared.Bits.{Bits}
 use Rattle.binary_json_answers.specs.declared.Scanned.{Scanned}
 use Rattle.binary_json_answers.specs.declared.Looked.{Looked}
-use Rattle.binary_json_areas.specs.declared.offsets.TreeOffset.{TreeOffset}
-use Rattle.binary_json_areas.specs.declared.offsets.SlotOffset.{SlotOffset}
 use Rattle.binary_json_answers.specs.Told.{toldSized, toldTree, toldMember, toldType, toldSpan, toldBits, toldScan, toldLookup}
 use Rattle.encoding.proofs.WordLaws.{three-written, second-inside, third-inside}
-use Rattle.encoding.specs.Encoding.{hands, given, code, coded, nothing, one, placeAndLength, sized, memberAt, found, counted}
+use Rattle.encoding.specs.Encoding.{hands, given, coded, nothing, one, placeAndLength, sized, memberAt, found, counted}
 
 module _ (words after : List ℕ) (r : ℕ) where
   module _ (a : Verdict) where

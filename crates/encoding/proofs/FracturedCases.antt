@@ -1,9 +1,8 @@
 -- Fractured JSON: what each case of an answer hands over.
 use mathlib.Core.Path.{_≡_}
-use mathlib.Core.List.{List, [], _∷_}
+use mathlib.Core.List.{List}
 use Prim.Native.Nat.{ℕ}
 use borrow.Author.Needs.{needs}
-use Rattle.json.specs.declared.Refusal.{Refusal}
 use Rattle.fractured_json_answers.specs.declared.Place.{Place}
 use Rattle.fractured_json_answers.specs.declared.Kind.{Kind}
 use Rattle.fractured_json_answers.specs.declared.Number.{Number}
@@ -11,7 +10,7 @@ use Rattle.fractured_json_answers.specs.declared.Text.{Text}
 use Rattle.fractured_json_answers.specs.declared.Member.{Member}
 use Rattle.fractured_json_answers.specs.declared.Found.{Found}
 use Rattle.fractured_json_answers.specs.Told.{toldPlace, toldKind, toldNumber, toldText, toldMember, toldFound}
-use Rattle.encoding.specs.Encoding.{hands, given, code, coded, one, placeAndLength, kind, bits, keyAndValue, valueAt}
+use Rattle.encoding.specs.Encoding.{hands, given, coded, one, placeAndLength, kind, bits, keyAndValue, valueAt}
 
 module _ (words after : List ℕ) (r : ℕ) where
   pub place-case : (a b : Place) → a ≡ b → hands r after ≡ given words (coded one (toldPlace b)) → hands r after ≡ given words (coded one (toldPlace a))

@@ -34,10 +34,7 @@ module _ (o : List ℕ) (r a b c d : ℕ) where
     pub third-inside : k < length (set (set o 0 a) 1 b)
     third-inside = omega (arith, second-inside, length-set (set o 0 a) 1 b, length-set o 0 a)
 
-    pub fourth-inside : k < length (set (set (set o 0 a) 1 b) 2 c)
-    fourth-inside = omega (arith, third-inside, length-set (set (set o 0 a) 1 b) 2 c)
-
-pub ruleset word-laws = (one-written, two-written, three-written, four-written, second-inside, third-inside, fourth-inside, needs)
+pub ruleset word-laws = (one-written, two-written, three-written, four-written, second-inside, third-inside, needs)
 
 -- ---- the verdict of a check with a key table
 
