@@ -3,8 +3,6 @@
 use Prim.Native.Nat.{ℕ}
 use mathlib.Core.List.{List}
 use Rattle.json.specs.Reading.{told}
-use Rattle.json.specs.declared.Refusal.{Refusal}
-use Rattle.json.specs.declared.Verdict.{Verdict}
 use Rattle.fractured_json_rules.specs.KeyTable as Rules
 use Rattle.fractured_json_check.specs.declared.answers.Checked.{Checked}
 
@@ -12,7 +10,3 @@ use Rattle.fractured_json_check.specs.declared.answers.Checked.{Checked}
 
 abbrev pub toldChecked : Checked → List ℕ → Rules.Checked
 toldChecked r words = record { verdict = told (r .verdict); count = r .count; words = words }
-
--- a refusal, beside the number of pairs
-abbrev pub refused : Refusal → ℕ → Checked
-refused r count = record { verdict = Verdict.Refused r; count = count }

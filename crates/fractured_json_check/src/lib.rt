@@ -10,12 +10,13 @@ use json::Refusal;
 use json::Verdict;
 use walk::Walk;
 ghost use mathlib.Core.Path.{_≡_};
+ghost use Rattle.json.specs.Reading.{refuses, told};
 ghost use Rattle.fractured_json_rules.specs.KeyTable.{checked};
-ghost use Rattle.fractured_json_check.specs.Told.{toldChecked, refused};
+ghost use Rattle.fractured_json_check.specs.Told.{toldChecked};
 
 // A refusal, beside the number of pairs.
 fn refuse(refusal: Refusal, count: usize) -> Checked
-    ensures { λ r. ⌜ r ≡ refused refusal count ⌝ }
+    ensures { λ r. ⌜ (told (r .verdict) ≡ refuses (refusal .number) (refusal .place)) × (r .count ≡ count) ⌝ }
 {
     Checked {
         verdict: Verdict::Refused(refusal),
