@@ -18,7 +18,7 @@ use Rattle.json.proofs.Reading.{then, stops, pass, fail}
 use Rattle.fractured_json_rules.specs.ByteTables.{keyFormOf}
 use Rattle.fractured_json_rules.specs.Verdict.{numeral, keyNumberAt}
 use Rattle.fractured_json_rules.specs.KeyTable.{roomOf}
-use Rattle.fractured_json_rules.proofs.Readers.{kept-is, keep-is, text-is}
+use Rattle.fractured_json_rules.proofs.Readers.{kept-is, keep-is, text-is, text-past}
 use Rattle.fractured_json_values.specs.Heads.{keyHeadOf, keyNumberBy, numberedBy}
 use Rattle.fractured_json_values.specs.Opened.{ReadsNumeral}
 use Rattle.fractured_json_check.specs.Known.{Known}
@@ -28,7 +28,6 @@ use Rattle.fractured_json_values.specs.declared.values.Numeral.{Numeral}
 use Rattle.fractured_json_keys.specs.Passed.{withPair}
 use Rattle.fractured_json_keys.specs.Chains.{bucketsIn, bucketOf, seenIn, linkedIn}
 use Rattle.fractured_json_values.proofs.KeyHeads.{past-end, head-reserved, head-numbered, number-refused, number-read}
-use Rattle.fractured_json_values.proofs.Numbering.{text-past}
 use Rattle.fractured_json_values.proofs.Opening.{numeral-inside}
 
 -- ---- an immediate key

@@ -18,7 +18,9 @@ use Rattle.fractured_json_rules.specs.KeyTable.{roomOf, stored, Checked, checke
 use Rattle.fractured_json_values.specs.Opened.{entry}
 use Rattle.fractured_json_values.proofs.Carried.{carry, carry-header}
 use Rattle.fractured_json_values.proofs.Headers.{unlike, header-opens}
+use Rattle.fractured_json_check.specs.Told.{toldChecked}
 use Rattle.fractured_json_check.specs.Table.{Table, table, keyIn, out, Walked, walkedBy, walked, toldWalk}
+use Rattle.fractured_json_check.specs.declared.answers.Checked.{Checked as Answer}
 use Rattle.fractured_json_check.specs.declared.walk.Walk.{Walk}
 use Rattle.fractured_json_check.proofs.Stored.{walk-is}
 
@@ -67,9 +69,9 @@ pub document-short : (doc : List ℕ) (v : Verdict) → told v ≡ ask (header d
 document-short doc v h e = let o = header-opens doc (sym h ∙ ap told e) in let l = o .short in omega arith
 
 module _ (doc words : List ℕ) (v : Verdict) (h : told v ≡ ask (header doc)) where
-  pub header-refused : (r : Refusal) → v ≡ Verdict.Refused r → record { verdict = refuses (r .number) (r .place); count = 0; words = words } ≡ checked doc words
+  pub header-refused : (r : Refusal) (c : Answer) → v ≡ Verdict.Refused r → told (c .verdict) ≡ refuses (r .number) (r .place) → c .count ≡ 0 → toldChecked c words ≡ checked doc words
   unfolding check stored
-  header-refused r e = ap (checkedBy words) (sym (stops _ _ _ (carry-header doc [] ∙ ap (carry []) (sym h ∙ ap told e))))
+  header-refused r c e a b = rw (a, b) (ap (checkedBy words) (sym (stops _ _ _ (carry-header doc [] ∙ ap (carry []) (sym h ∙ ap told e)))))
 
   module _ (e : v ≡ Verdict.Accepted) (w : Walk) (after : List ℕ) (ws : toldWalk w after ≡ walked doc words) where
     goes-on : check (roomOf words) doc [] ≡ (value (checkKey (roomOf words) doc) deepest doc 3 >>= λ past. need (eqb past (length doc)) 42 past) []
@@ -80,17 +82,17 @@ module _ (doc words : List ℕ) (v : Verdict) (h : told v ≡ ask (header doc)) 
     unfolding _>>=_
     checked-is = ap (checkedBy words) goes-on ∙ (closes words (length doc) (value (checkKey (roomOf words) doc) deepest doc 3 []) ∙ ap (closed (length doc)) (sym ws))
 
-    pub walk-refused : (r : Refusal) (c : ℕ) → w ≡ Walk.Refused c r → record { verdict = refuses (r .number) (r .place); count = c; words = after } ≡ checked doc words
+    pub walk-refused : (r : Refusal) (n : ℕ) (c : Answer) → w ≡ Walk.Refused n r → told (c .verdict) ≡ refuses (r .number) (r .place) → c .count ≡ n → toldChecked c after ≡ checked doc words
     unfolding closed
-    walk-refused r c q = sym (checked-is ∙ ap (λ x. closed (length doc) (toldWalk x after)) q)
+    walk-refused r n c q a b = rw (a, b) (sym (checked-is ∙ ap (λ x. closed (length doc) (toldWalk x after)) q))
 
     module _ (a c : ℕ) (q : w ≡ Walk.End c a) where
       ends : checked doc words ≡ record { verdict = ask (need (eqb a (length doc)) 42 a); count = c; words = after }
       unfolding closed
       ends = checked-is ∙ ap (λ x. closed (length doc) (toldWalk x after)) q
 
-      pub bytes-after : (a ≡ length doc → ⊥) → record { verdict = refuses 42 a; count = c; words = after } ≡ checked doc words
-      bytes-after n = sym (ends ∙ ap (λ x. record { verdict = x; count = c; words = after }) (need-no _ _ _ _ (unlike n)))
+      pub bytes-after : (a ≡ length doc → ⊥) → (z : Answer) → told (z .verdict) ≡ refuses 42 a → z .count ≡ c → toldChecked z after ≡ checked doc words
+      bytes-after n z x y = rw (x, y) (sym (ends ∙ ap (λ x. record { verdict = x; count = c; words = after }) (need-no _ _ _ _ (unlike n))))
 
       pub accepts : a ≡ length doc → record { verdict = answers tt; count = c; words = after } ≡ checked doc words
       accepts n = sym (ends ∙ ap (λ x. record { verdict = x; count = c; words = after }) (need-yes _ _ _ _ (rw n (eqb-refl (length doc)))))

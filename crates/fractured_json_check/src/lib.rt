@@ -10,8 +10,19 @@ use json::Refusal;
 use json::Verdict;
 use walk::Walk;
 ghost use mathlib.Core.Path.{_≡_};
+ghost use Rattle.json.specs.Reading.{refuses, told};
 ghost use Rattle.fractured_json_rules.specs.KeyTable.{checked};
 ghost use Rattle.fractured_json_check.specs.Told.{toldChecked};
+
+// A refusal, beside the number of pairs.
+fn refuse(refusal: Refusal, count: usize) -> Checked
+    ensures { λ r. ⌜ (told (r .verdict) ≡ refuses (refusal .number) (refusal .place)) × (r .count ≡ count) ⌝ }
+{
+    Checked {
+        verdict: Verdict::Refused(refusal),
+        count,
+    }
+}
 
 // The check of a document with a lent key table: the verdict, and the number of pairs. Each immediate key passed before the
 // end or the refusal has its pair in the table, the start and the length of its text; all other words keep what they held.
@@ -20,17 +31,11 @@ pub fn check(doc: &[u8], keys: &mut [u32]) -> Checked
 {
     let h = read_header(doc);
     match h {
-        Verdict::Refused(r) => Checked {
-            verdict: Verdict::Refused(r),
-            count: 0,
-        },
+        Verdict::Refused(r) => refuse(r, 0),
         Verdict::Accepted => {
             let w = start::walk_root(doc, keys);
             match w {
-                Walk::Refused { count, refusal } => Checked {
-                    verdict: Verdict::Refused(refusal),
-                    count,
-                },
+                Walk::Refused { count, refusal } => refuse(refusal, count),
                 Walk::End { count, at } => {
                     if at == doc.len() {
                         return Checked {
@@ -38,13 +43,13 @@ pub fn check(doc: &[u8], keys: &mut [u32]) -> Checked
                             count,
                         };
                     }
-                    Checked {
-                        verdict: Verdict::Refused(Refusal {
+                    refuse(
+                        Refusal {
                             number: 42,
                             place: at,
-                        }),
+                        },
                         count,
-                    }
+                    )
                 }
             }
         }

@@ -18,12 +18,11 @@ use Rattle.fractured_json_rules.specs.ByteTables.{keyFormOf}
 use Rattle.fractured_json_rules.specs.Verdict.{numeral, keyNumberAt}
 use Rattle.fractured_json_rules.specs.KeyTable.{roomOf}
 use Rattle.fractured_json_rules.specs.Questions.{KeyRead, textKey, backKey, readKey}
-use Rattle.fractured_json_rules.proofs.Readers.{text-is}
+use Rattle.fractured_json_rules.proofs.Readers.{text-is, text-past}
 use Rattle.fractured_json_values.specs.Heads.{keyHeadOf, keyNumberBy, numberedBy}
 use Rattle.fractured_json_values.specs.Opened.{ReadsNumeral}
 use Rattle.fractured_json_values.specs.declared.types.KeyHead.{KeyHead}
 use Rattle.fractured_json_values.specs.declared.values.Numeral.{Numeral}
-use Rattle.fractured_json_values.proofs.Numbering.{text-past}
 use Rattle.fractured_json_values.proofs.KeyHeads.{past-end, head-reserved, number-refused, number-read}
 use Rattle.fractured_json_values.proofs.Opening.{over, numeral-inside}
 

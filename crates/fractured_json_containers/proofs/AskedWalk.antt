@@ -7,7 +7,7 @@ use borrow.Author.Needs.{needs}
 use Rattle.json.specs.Reading.{Asked, ask, answers, refuses}
 use Rattle.json.specs.declared.Refusal.{Refusal}
 use Rattle.json.proofs.Reading.{then, stops}
-use Rattle.fractured_json_rules.specs.Verdict.{inTurn, value}
+use Rattle.fractured_json_rules.specs.Verdict.{inTurn, member, value}
 use Rattle.fractured_json_rules.specs.Questions.{readKey, passKey}
 use Rattle.fractured_json_values.specs.Opened.{openedAt, entry, toldOpen}
 use Rattle.fractured_json_containers.specs.Asked.{toldKey}
@@ -15,7 +15,7 @@ use Rattle.fractured_json_answers.specs.Told.{toldPlace}
 use Rattle.fractured_json_answers.specs.declared.Place.{Place}
 use Rattle.fractured_json_values.specs.declared.values.Open.{Open}
 use Rattle.fractured_json_containers.specs.declared.skip.KeyText.{KeyText}
-use Rattle.fractured_json_values.proofs.Walks.{value-leaf, value-halts, value-deep, value-inside, turns-done, turn-passes, turn-halts, entry-plain, entry-keyed, entry-halts}
+use Rattle.fractured_json_values.proofs.Walks.{value-leaf, value-halts, value-deep, value-inside, turns-done, turn-passes, turn-halts}
 
 module _ (doc words : List ℕ) (count at levels : ℕ) (o : Open) (os : toldOpen o ≡ ask (openedAt doc at)) where
   pub leaf-ends : (e : ℕ) → o ≡ Open.Leaf e → answers e ≡ ask (value (passKey doc words count) levels doc at)
@@ -62,14 +62,17 @@ module _ (doc words : List ℕ) (count at : ℕ) (k : KeyText) (ks : toldKey doc
 module _ (doc words : List ℕ) (count : ℕ) (object : Bool) (below at : ℕ) where
   pub as-value : (r : Asked ℕ) → object ≡ false → r ≡ ask (value (passKey doc words count) below doc at)
       → r ≡ ask (entry object (passKey doc words count) (value (passKey doc words count) below doc) at)
-  as-value r e h = h ∙ sym (entry-plain (passKey doc words count) (value (passKey doc words count) below doc) object at tt e)
+  unfolding entry
+  as-value r e h = rw e h
 
   module _ (o : object ≡ true) (k : KeyText) (ks : toldKey doc k ≡ ask (readKey doc words count at)) where
     pub after-key : (s l p : ℕ) (r : Asked ℕ) → k ≡ KeyText.At s l p → r ≡ ask (value (passKey doc words count) below doc p)
         → r ≡ ask (entry object (passKey doc words count) (value (passKey doc words count) below doc) at)
-    after-key s l p r q h = h ∙ sym (entry-keyed (passKey doc words count) (value (passKey doc words count) below doc) object at tt p _ o (passes-key doc words count at k ks s l p q))
+    unfolding entry member
+    after-key s l p r q h = rw o (h ∙ sym (then _ _ tt (passes-key doc words count at k ks s l p q)))
 
     pub key-halts : (r : Refusal) → k ≡ KeyText.Refused r → refuses (r .number) (r .place) ≡ ask (entry object (passKey doc words count) (value (passKey doc words count) below doc) at)
-    key-halts r q = sym (entry-halts (passKey doc words count) (value (passKey doc words count) below doc) object at tt _ _ _ o (stops-at-key doc words count at k ks r q))
+    unfolding entry member
+    key-halts r q = rw o (sym (stops _ _ tt (stops-at-key doc words count at k ks r q)))
 
 pub ruleset entry-laws = (as-value, after-key, key-halts, needs)

@@ -7,7 +7,7 @@ use native.Mathlib.Omega.{arith}
 use borrow.Author.Needs.{needs}
 use lib.Dec.{lt→ltb, ltb→lt}
 use lib.ListN.{length}
-use Rattle.json.specs.Reading.{Asked, ask, answers, refuses, _>>=_, told}
+use Rattle.json.specs.Reading.{Asked, ask, answers, refuses, told}
 use Rattle.json.specs.declared.Refusal.{Refusal}
 use Rattle.json.specs.declared.Verdict.{Verdict}
 use Rattle.json.proofs.Reading.{then, stops, pass, fail}

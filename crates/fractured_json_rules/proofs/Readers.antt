@@ -9,8 +9,8 @@ use borrow.Author.Tests.{lt-ltb, le-ltb}
 use lib.Dec.{T, ltb, leb, leb→le, ltb→lt, nltb→le, le→leb, lt→ltb, eqb→eq}
 use lib.ListN.{length, getD}
 use Rattle.json.specs.Bytes.{number}
-use Rattle.json.specs.Reading.{Reading, done, answer, kept, keep, _>>=_, follow, need}
-use Rattle.json.proofs.Reading.{halt≢done, done-kept, passed, then, pass, need-yes, assoc}
+use Rattle.json.specs.Reading.{Reading, halt, done, answer, kept, keep, _>>=_, follow, need}
+use Rattle.json.proofs.Reading.{halt≢done, done-kept, passed, then, pass, fail, need-yes, assoc}
 use Rattle.fractured_json_rules.specs.ByteTables.{bytes, Len, tiny, after, KeyNumber, inByte, spelled}
 use Rattle.fractured_json_rules.specs.Meaning.{LengthIs, afterLength, Spelled, oneByte, twoBytes, threeBytes, KeyNumberIs}
 pub use Rattle.fractured_json_rules.specs.Meaning.{Opens}
@@ -108,7 +108,7 @@ module _ {S B : Type 0} (doc : List ℕ) where
       let r = byte-step (o + 1) _ _ s (along _ _ f s e) in
       first-step o (ltb (getD doc (o + 1) 0) 128) (ltb→lt _ _) (nltb→le _ _) (r .0) f s (r .1)
 
--- ---- what stands there is answered
+-- ---- what stands there is answered, and what runs out refused
 
 module _ {S : Type 0} (doc : List ℕ) where
   pub header-is : (s : S) → Opens doc → header doc s ≡ done tt s
@@ -120,6 +120,10 @@ module _ {S : Type 0} (doc : List ℕ) where
   pub byte-is : (o p : ℕ) (s : S) → o < length doc → byteAt doc o p s ≡ done (getD doc o 0) s
   unfolding byteAt
   byte-is o p s h = pass _ _ _ _ s (lt→ltb _ _ h)
+
+  pub byte-past : (o p : ℕ) (s : S) → length doc ≤ o → byteAt doc o p s ≡ halt 35 p s
+  unfolding byteAt
+  byte-past o p s h = fail _ _ _ _ s (λ t. let l = ltb→lt o (length doc) t in omega arith)
 
   pub payload-is : (o w : ℕ) (s : S) → o + 1 + w ≤ length doc → payload doc o w s ≡ done (numeral (number doc (o + 1) w) (o + 1 + w)) s
   unfolding payload
@@ -133,6 +137,10 @@ module _ {S : Type 0} (doc : List ℕ) where
   pub text-is : (o : ℕ) (n : Numeral) (s : S) → n .past + n .is ≤ length doc → textAt doc o n s ≡ done (n .past + n .is) s
   unfolding textAt
   text-is o n s h = pass _ _ _ _ s (le→leb _ _ h)
+
+  pub text-past : (o : ℕ) (n : Numeral) (s : S) → length doc < n .past + n .is → textAt doc o n s ≡ halt 35 o s
+  unfolding textAt
+  text-past o n s h = fail _ _ _ _ s (λ t. let l = leb→le (n .past + n .is) (length doc) t in omega arith)
 
   spelled-is : (o n e : ℕ) (s : S) → Spelled doc o n e → keyNumberAt doc o spelled s ≡ done (numeral n e) s
   unfolding keyNumberAt afterFirst afterSecond

@@ -15,14 +15,13 @@ use Rattle.fractured_json_rules.specs.ByteTables.{formOf}
 use Rattle.fractured_json_rules.specs.Verdict.{header, numeral}
 use Rattle.fractured_json_rules.specs.Verdict as Rules
 use Rattle.fractured_json_rules.specs.Questions.{opening, typeAt, Wanted, wantedAt}
-use Rattle.fractured_json_rules.proofs.Readers.{byte-is}
+use Rattle.fractured_json_rules.proofs.Readers.{byte-is, byte-past}
 use Rattle.fractured_json_values.specs.Heads.{headOf}
 use Rattle.fractured_json_values.specs.Opened.{sizedAt, ReadsNumeral}
 use Rattle.fractured_json_scalars.specs.Asked.{Enters, wantedHead, wantedIn}
 use Rattle.fractured_json_values.specs.declared.types.Head.{Head}
 use Rattle.fractured_json_scalars.specs.declared.enter.Entered.{Entered}
 use Rattle.fractured_json_values.specs.declared.values.Numeral.{Numeral}
-use Rattle.fractured_json_values.proofs.Numbering.{byte-past}
 use Rattle.fractured_json_values.proofs.Opening.{over, head-width}
 use Rattle.fractured_json_scalars.proofs.Forms.{wantedKind, wanted-is}
 

@@ -1,12 +1,12 @@
 -- One law for each way through the questions of questions.rt.
 use mathlib.Core.Path.{_≡_, sym, ap, _∙_}
 use mathlib.Core.List.{List}
-use Prim.Native.Nat.{ℕ, _+_, _-_, _≤_, _<_}
+use Prim.Native.Nat.{ℕ, _-_, _≤_, _<_}
 use native.Mathlib.Omega.{arith}
 use borrow.Author.Needs.{needs}
 use lib.ListN.{length}
 use Rattle.json.specs.Bytes.{part}
-use Rattle.json.specs.Reading.{Asked, ask, answers, refuses, _>>=_}
+use Rattle.json.specs.Reading.{Asked, ask, answers, refuses}
 use Rattle.json.specs.declared.Refusal.{Refusal}
 use Rattle.json.proofs.Reading.{then, stops}
 use Rattle.fractured_json_rules.specs.ByteTables.{formOf}
@@ -18,8 +18,7 @@ use Rattle.fractured_json_answers.specs.declared.Text.{Text}
 use Rattle.fractured_json_scalars.specs.declared.enter.Entered.{Entered}
 use Rattle.fractured_json_values.specs.declared.values.Numeral.{Numeral}
 use Rattle.fractured_json_scalars.proofs.Entering.{entered-inside, enters-refused, enters-read, length-refused, length-read}
-use Rattle.fractured_json_values.proofs.Numbering.{text-past}
-use Rattle.fractured_json_rules.proofs.Readers.{text-is}
+use Rattle.fractured_json_rules.proofs.Readers.{text-is, text-past}
 use Rattle.fractured_json_values.proofs.Opening.{numeral-inside}
 
 -- ---- its kind, and its number

@@ -5,7 +5,7 @@ use Prim.Native.Nat.{ℕ, _≤_, _<_}
 use borrow.Author.Needs.{needs}
 use lib.Dec.{T, eqb, le→leb, eqb→eq}
 use lib.ListN.{length, getD}
-use Rattle.json.specs.Reading.{ask, answers, refuses, answer, _>>=_, told}
+use Rattle.json.specs.Reading.{ask, answers, refuses, answer, told}
 use Rattle.json.specs.declared.Verdict.{Verdict}
 use Rattle.json.proofs.Reading.{then, pass, fail, need-no}
 use Rattle.fractured_json_rules.specs.Verdict.{header}

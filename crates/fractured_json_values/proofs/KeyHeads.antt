@@ -8,16 +8,15 @@ use Rattle.json.specs.Choose.{choose}
 use Rattle.json.specs.Reading.{halt, Reading, ask, _>>=_}
 use Rattle.json.specs.declared.Refusal.{Refusal}
 use Rattle.json.proofs.Reading.{then, stops}
-use Rattle.fractured_json_rules.specs.ByteTables.{KeyNumber, inByte, spelled, KeyForm, immediate, backReference, globalIndex, kReserved, keyFormOf}
+use Rattle.fractured_json_rules.specs.ByteTables.{inByte, spelled, KeyForm, immediate, backReference, globalIndex, kReserved, keyFormOf}
 use Rattle.fractured_json_rules.specs.Verdict.{byteAt, numeral, keyNumberAt, keyBy}
 use Rattle.fractured_json_rules.specs.Verdict as Rules
-use Rattle.fractured_json_rules.proofs.Readers.{byte-is}
+use Rattle.fractured_json_rules.proofs.Readers.{byte-is, byte-past}
 use Rattle.fractured_json_values.specs.Heads.{keyHeadOf, keyNumberBy, numberedBy}
 use Rattle.fractured_json_values.specs.Opened.{ReadsNumeral}
 use Rattle.fractured_json_values.specs.declared.types.KeyHead.{KeyHead}
 use Rattle.fractured_json_values.specs.declared.values.Numeral.{Numeral}
 use Rattle.fractured_json_values.proofs.Carried.{key-number-done, key-number-halts}
-use Rattle.fractured_json_values.proofs.Numbering.{byte-past}
 
 module _ {S A : Type 0} (doc : List ℕ) (o : ℕ) (byLength byIndex : Rules.Numeral → Reading S A) (s : S) where
   reserved : (f : KeyForm) → keyHeadOf f .kind ≡ 3 → keyBy doc o byLength byIndex f s ≡ halt 36 o s

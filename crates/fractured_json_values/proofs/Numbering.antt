@@ -6,26 +6,17 @@ use Prim.Native.Nat.{ℕ, zero, suc, _+_, _-_, _*_, _≤_, _<_}
 use native.Mathlib.Omega.{arith}
 use borrow.Author.Needs.{needs}
 use borrow.Author.Tests.{lt-ltb, le-ltb}
-use lib.Dec.{ltb, le→leb, ltb→lt}
+use lib.Dec.{ltb, le→leb}
 use lib.ListN.{length, getD}
-use Rattle.json.specs.Reading.{halt, ask, answers, refuses}
+use Rattle.json.specs.Reading.{ask, answers, refuses}
 use Rattle.json.proofs.Reading.{then, stops, pass, fail}
 use Rattle.fractured_json_rules.specs.ByteTables.{spelled}
-use Rattle.fractured_json_rules.specs.Verdict.{byteAt, textAt, numeral, afterSecond, afterFirst, keyNumberAt}
-use Rattle.fractured_json_rules.specs.Verdict as Rules
-use Rattle.fractured_json_rules.proofs.Readers.{byte-is}
+use Rattle.fractured_json_rules.specs.Verdict.{numeral, afterSecond, afterFirst, keyNumberAt}
+use Rattle.fractured_json_rules.proofs.Readers.{byte-is, byte-past}
 use Rattle.fractured_json_values.specs.Opened.{ReadsNumeral}
 use Rattle.fractured_json_values.specs.Heads.{keyNumberBy}
 use Rattle.fractured_json_values.specs.declared.values.Numeral.{Numeral}
 use Rattle.fractured_json_values.proofs.Opening.{over}
-
-pub byte-past : {S : Type 0} (doc : List ℕ) (o p : ℕ) (s : S) → length doc ≤ o → byteAt doc o p s ≡ halt 35 p s
-unfolding byteAt
-byte-past doc o p s h = fail _ _ _ _ s (λ t. let l = ltb→lt o (length doc) t in omega arith)
-
-pub text-past : {S : Type 0} (doc : List ℕ) (o : ℕ) (n : Rules.Numeral) (s : S) → length doc < n .past + n .is → textAt doc o n s ≡ halt 35 o s
-unfolding textAt
-text-past doc o n s h = fail _ _ _ _ s (over h)
 
 module _ (doc : List ℕ) (at : ℕ) where
   -- ---- the first byte

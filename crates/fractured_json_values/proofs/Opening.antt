@@ -7,20 +7,20 @@ use native.Mathlib.Nat.{add-zero, div-one, div-div-eq-div-mul, pow-succ'}
 use native.Mathlib.Omega.{arith}
 use borrow.Author.Needs.{needs}
 use borrow.Author.Tests.{lt-ltb, le-ltb, eq-eqb, ne-eqb}
-use lib.Dec.{T, leb, ltb, eqb, le→leb, leb→le, ltb→lt, eqb→eq}
+use lib.Dec.{T, leb, ltb, eqb, le→leb, leb→le, eqb→eq}
 use lib.ListN.{length, getD}
 use mir.Syntax.{w8, w64}
 use mir.Val.{Fits}
 use Rattle.json.specs.Bytes.{Bytes, number}
 use Rattle.json.specs.Choose.{choose}
 use Rattle.json.specs.Number.{finite}
-use Rattle.json.specs.Reading.{Outcome, ask, answers, refuses, _>>=_}
+use Rattle.json.specs.Reading.{Outcome, ask, answers, refuses}
 use Rattle.json.proofs.Bytes.{number-small}
 use Rattle.json.proofs.Reading.{then, stops, pass, fail}
 use Rattle.fractured_json_rules.specs.ByteTables.{one, two, four, eight, tiny, after, Form, fNull, fBool, fInt, fFloat, fTiny, fString, fObject, fArray, fReserved, formOf}
-use Rattle.fractured_json_rules.specs.Verdict.{byteAt, payload, numeral}
+use Rattle.fractured_json_rules.specs.Verdict.{payload, numeral}
 use Rattle.fractured_json_rules.specs.Verdict as Rules
-use Rattle.fractured_json_rules.proofs.Readers.{byte-is, payload-is}
+use Rattle.fractured_json_rules.proofs.Readers.{byte-is, byte-past, payload-is}
 use Rattle.fractured_json_values.specs.Heads.{headOf}
 use Rattle.fractured_json_values.specs.Opened.{sizedAt, leaf, inside, finiteKind, finiteAt, FloatInside, FloatWidth, LengthWidth, openKind, openHead, openedAt, ReadsNumeral, toldOpen}
 use Rattle.fractured_json_values.specs.declared.types.Head.{Head}
@@ -310,8 +310,8 @@ widths h b e = right-widths (h .kind) (h .width) (rw e (all-right b))
 
 module _ (doc : List ℕ) (at : ℕ) where
   pub open-past : length doc ≤ at → refuses 35 at ≡ ask (openedAt doc at)
-  unfolding openedAt byteAt
-  open-past h = sym (stops _ _ tt (fail _ _ _ _ tt (λ t. let l = ltb→lt at (length doc) t in omega arith)))
+  unfolding openedAt
+  open-past h = sym (stops _ _ tt (byte-past doc at at tt h))
 
   module _ (i : at < length doc) (h : Head) (hs : h ≡ headOf (formOf (getD doc at 0))) where
     opening : ask (openedAt doc at) ≡ ask (openHead doc at h)

@@ -1,5 +1,5 @@
--- The walk over a value as the code makes it is the rules' walk, whatever reads the keys and whatever is kept. The laws at the
--- end serve the check's walk and the questions' walk alike.
+-- The walk over a value as the code makes it is the rules' walk, whatever reads the keys and whatever is kept: for the check's
+-- walk and the questions' walk alike.
 use mathlib.Core.Path.{_≡_, refl, sym, ap, _∙_}
 use mathlib.Core.Bool.{Bool, true, false}
 use mathlib.Core.List.{List}
@@ -12,8 +12,7 @@ use Rattle.json.specs.Number.{Float, binary32, binary64, finite}
 use Rattle.json.specs.Reading.{Outcome, halt, done, Reading, ask, answers, refuses, answer, follow, _>>=_, need}
 use Rattle.json.proofs.Reading.{then, stops, assoc}
 use Rattle.fractured_json_rules.specs.ByteTables.{Width, one, two, four, eight, bytes, Len, tiny, after, Form, fNull, fBool, fInt, fFloat, fTiny, fString, fObject, fArray, fReserved, formOf}
-use Rattle.fractured_json_rules.specs.Meaning.{afterLength}
-use Rattle.fractured_json_rules.specs.Verdict.{byteAt, payload, lengthAt, textAt, Numeral, numeral, inTurn, member, valueBy, value}
+use Rattle.fractured_json_rules.specs.Verdict.{byteAt, payload, lengthAt, textAt, Numeral, numeral, inTurn, valueBy, value}
 use Rattle.fractured_json_values.specs.Heads.{widthIn, tinyIn, headOf}
 use Rattle.fractured_json_values.specs.Opened.{sizedAt, Opened, leaf, inside, finiteKind, openKind, openHead, openedAt, entry}
 use Rattle.fractured_json_values.proofs.Carried.{opened-done, opened-halts}
@@ -166,18 +165,3 @@ module _ {S : Type 0} (thing : ℕ → Reading S ℕ) (left at : ℕ) (s : S) wh
   pub turn-halts : (n p : ℕ) (z : S) → 0 < left → thing at s ≡ halt n p z → inTurn thing left at s ≡ halt n p z
   unfolding inTurn
   turn-halts n p z h e = let w : left ≡ suc (left - 1) = omega arith in ap (λ k. inTurn thing k at s) w ∙ stops _ _ s e
-
--- ---- an entry
-
-module _ {S : Type 0} (key value : ℕ → Reading S ℕ) (object : Bool) (at : ℕ) (s : S) where
-  pub entry-plain : object ≡ false → entry object key value at s ≡ value at s
-  unfolding entry
-  entry-plain e = rw e
-
-  pub entry-keyed : (v : ℕ) (z : S) → object ≡ true → key at s ≡ done v z → entry object key value at s ≡ value v z
-  unfolding entry member
-  entry-keyed v z e h = rw e (then _ _ s h)
-
-  pub entry-halts : (n p : ℕ) (z : S) → object ≡ true → key at s ≡ halt n p z → entry object key value at s ≡ halt n p z
-  unfolding entry member
-  entry-halts n p z e h = rw e (stops _ _ s h)
