@@ -1,6 +1,6 @@
 -- Both halvings and the scan, one law for each way through the functions of `lookup`.
 use mathlib.Core.Path.{_≡_, refl, sym, ap, _∙_}
-use mathlib.Core.Bool.{false}
+use mathlib.Core.Bool.{Bool, true, false}
 use mathlib.Core.List.{List}
 use Prim.Native.Nat.{ℕ, zero, suc, _+_, _-_, _*_, _≤_, _<_}
 use native.Mathlib.Omega.{arith}
@@ -28,10 +28,11 @@ use Rattle.binary_json_rules.proofs.Trees.{slot-at}
 use Rattle.binary_json_areas.specs.Laid.{Laid}
 use Rattle.binary_json_areas.specs.Naming.{TextNamed}
 use Rattle.binary_json_metas.specs.Objects.{ObjectAt, ObjectRead}
-use Rattle.binary_json_lookup.specs.Lookups.{TextCompared, toldItem, stringItems, toldHalving, Within}
+use Rattle.binary_json_lookup.specs.Lookups.{TextCompared, Matches, TextMatched, toldItem, stringItems, toldHalving, Within}
 use Rattle.binary_json_areas.specs.declared.areas.Areas.{Areas}
 use Rattle.binary_json_lookup.specs.declared.lookup.Compared.{Compared}
 use Rattle.binary_json_lookup.specs.declared.lookup.Halving.{Halving}
+use Rattle.binary_json_lookup.specs.declared.lookup.Matched.{Matched}
 use Rattle.binary_json_areas.specs.declared.named.Texted.{Texted}
 use Rattle.binary_json_metas.specs.declared.Object.{Object}
 use Rattle.binary_json_areas.proofs.Headers.{slot-is}
@@ -51,10 +52,25 @@ module _ (doc : List ℕ) (v : ℕ) (x : List ℕ) (t : Texted) (h : TextNamed d
       let z : TextNamed doc v (Texted.At p l) = rw e at h in
       (record { place = p; len = l }, z .1, r ∙ ap (λ y. compareTexts y x) q)
 
+  pub match-bad : t ≡ Texted.Bad → TextMatched doc v x Matched.Bad
+  match-bad e = rw e at h
+
+  module _ (p l : ℕ) (b : List ℕ) (m : Bool) (e : t ≡ Texted.At p l) (q : b ≡ part doc p l) (r : m ≡ isEqual (compareTexts b x)) where
+    matches : (k : Bool) → m ≡ k → Matches doc v x k
+    matches k w =
+        let z : TextNamed doc v (Texted.At p l) = rw e at h in
+        (record { place = p; len = l }, z .1, sym w ∙ r ∙ ap (λ y. isEqual (compareTexts y x)) q)
+
+    pub match-same : m ≡ true → TextMatched doc v x Matched.Same
+    match-same w = matches true w
+
+    pub match-other : m ≡ false → TextMatched doc v x Matched.Other
+    match-other w = matches false w
+
 pub bytes-are : (doc : List ℕ) (p l : ℕ) → take (p + l - p) (drop p doc) ≡ part doc p l
 bytes-are doc p l = let q : p + l - p ≡ l = omega arith in rw q
 
-pub ruleset text-laws = (bytes-are, text-bad, bytes-inside, text-compared, needs)
+pub ruleset text-laws = (bytes-are, text-bad, bytes-inside, text-compared, match-bad, match-same, match-other, needs)
 
 -- string k, whose slot stands at S+4+4k
 slot-of : (doc : List ℕ) (a : Areas) (k c : ℕ) → Laid doc a → k < a .count → ask (textNamed doc (a .index + 4 + 4 * k) c) ≡ ask (slotRead doc k c)
@@ -263,28 +279,25 @@ unfolding scanFrom
 scan-suc doc c n key l j v e = rw e
 
 module _ (doc : List ℕ) (c n : ℕ) (key : List ℕ) (j : ℕ) (x : Scanning doc c n key j) where
-  module _ (b : j < n) (v : ℕ) (e : v ≡ word doc (c + 4 + 4 * j)) (r : Compared) (h : TextCompared doc v key r) where
+  module _ (b : j < n) (v : ℕ) (e : v ≡ word doc (c + 4 + 4 * j)) (r : Matched) (h : TextMatched doc v key r) where
     one-member : ask (textNamed doc v c >>= λ s. choose (isEqual (compareTexts (part doc (s .place) (s .len)) key)) (answer (entry (entryOf c n j))) (scanFrom doc c n key (n - (j + 1)) (j + 1))) ≡ ask (plainScan doc c key)
     one-member =
         let q : n - j ≡ suc (n - (j + 1)) = omega arith in
         sym (ap (λ l. ask (scanFrom doc c n key l j)) q ∙ scan-suc doc c n key (n - (j + 1)) j v e) ∙ x .same
 
-    pub scan-bad : r ≡ Compared.Bad → refuses 20 c ≡ ask (plainScan doc c key)
+    pub scan-bad : r ≡ Matched.Bad → refuses 20 c ≡ ask (plainScan doc c key)
     scan-bad q = sym (stops _ _ tt ((rw q at h) c)) ∙ one-member
 
-    module _ (o : Order) (q : r ≡ Compared.Of o) where
-      chosen : choose (isEqual o) (answer (entry (entryOf c n j))) (scanFrom doc c n key (n - (j + 1)) (j + 1)) tt ≡ ask (plainScan doc c key)
-      chosen =
-          let z : TextCompared doc v key (Compared.Of o) = rw q at h in
-          sym (then _ _ tt (z .1 c) ∙ rw (sym (z .2))) ∙ one-member
+    chosen : (m : Bool) → Matches doc v key m → choose m (answer (entry (entryOf c n j))) (scanFrom doc c n key (n - (j + 1)) (j + 1)) tt ≡ ask (plainScan doc c key)
+    chosen m z = sym (then _ _ tt (z .1 c) ∙ rw (sym (z .2))) ∙ one-member
 
-      pub scan-found : o ≡ Equal → answers (entry (c + 4 + 4 * n + 4 * j)) ≡ ask (plainScan doc c key)
-      unfolding choose
-      scan-found w = rw w at chosen
+    pub scan-found : r ≡ Matched.Same → answers (entry (c + 4 + 4 * n + 4 * j)) ≡ ask (plainScan doc c key)
+    unfolding choose
+    scan-found q = chosen true (rw q at h)
 
-      pub scan-next : (m : Order) → o ≡ m → isEqual m ≡ false → Scanning doc c n key (j + 1)
-      unfolding choose
-      scan-next m w z = record { upto = omega arith; same = rw (w, z) at chosen }
+    pub scan-next : r ≡ Matched.Other → Scanning doc c n key (j + 1)
+    unfolding choose
+    scan-next q = record { upto = omega arith; same = chosen false (rw q at h) }
 
   pub scan-done : n ≤ j → answers absent ≡ ask (plainScan doc c key)
   unfolding scanFrom

@@ -1,21 +1,32 @@
 -- What the functions that look a key up say to one another.
 use Prim.Native.Nat.{ℕ, _≤_, _<_}
+use mathlib.Core.Bool.{Bool, true, false}
 use mathlib.Core.List.{List}
 use mathlib.Core.Path.{_≡_}
 use Rattle.json.specs.Bytes.{part}
 use Rattle.json.specs.Reading.{ask, answers, refuses}
 use Rattle.json.specs.Span.{Span}
-use Rattle.json.specs.Texts.{compareTexts}
+use Rattle.json.specs.Texts.{compareTexts, isEqual}
 use Rattle.binary_json_rules.specs.Questions.{slotRead, textNamed}
 use Rattle.binary_json_rules.specs.Halving.{Item, compares, unreadable, Halved, found, missed, broken}
 use Rattle.binary_json_rules.specs.Lookup.{stringItem}
 use Rattle.binary_json_lookup.specs.declared.lookup.Compared.{Compared}
 use Rattle.binary_json_lookup.specs.declared.lookup.Halving.{Halving}
+use Rattle.binary_json_lookup.specs.declared.lookup.Matched.{Matched}
 
 -- the text that the offset v names, against the key x
 abbrev pub TextCompared : List ℕ → ℕ → List ℕ → Compared → Type 0
 TextCompared doc v x Compared.Bad = (c : ℕ) → ask (textNamed doc v c) ≡ refuses 20 c
 TextCompared doc v x (Compared.Of o) = (s : Span) × ((c : ℕ) → ask (textNamed doc v c) ≡ answers s) × (o ≡ compareTexts (part doc (s .place) (s .len)) x)
+
+-- the text that the offset v names is the key x, or it is another
+abbrev pub Matches : List ℕ → ℕ → List ℕ → Bool → Type 0
+Matches doc v x b = (s : Span) × ((c : ℕ) → ask (textNamed doc v c) ≡ answers s) × (b ≡ isEqual (compareTexts (part doc (s .place) (s .len)) x))
+
+abbrev pub TextMatched : List ℕ → ℕ → List ℕ → Matched → Type 0
+TextMatched doc v x Matched.Same = Matches doc v x true
+TextMatched doc v x Matched.Other = Matches doc v x false
+TextMatched doc v x Matched.Bad = (c : ℕ) → ask (textNamed doc v c) ≡ refuses 20 c
 
 abbrev pub toldItem : Compared → Item
 toldItem Compared.Bad = unreadable

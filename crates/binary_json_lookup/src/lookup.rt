@@ -17,7 +17,7 @@ ghost use Rattle.binary_json_rules.specs.Areas.{slot};
 ghost use Rattle.binary_json_rules.specs.Lookup.{strings, keys, afterKeys, quickLookup, lookupOf, plainScan};
 ghost use Rattle.binary_json_areas.specs.Laid.{Laid};
 ghost use Rattle.binary_json_metas.specs.Objects.{ObjectAt};
-ghost use Rattle.binary_json_lookup.specs.Lookups.{TextCompared, toldItem, toldHalving, Within, stringItems};
+ghost use Rattle.binary_json_lookup.specs.Lookups.{TextCompared, TextMatched, toldItem, toldHalving, Within, stringItems};
 ghost use Rattle.binary_json_answers.specs.Told.{toldScan, toldLookup};
 
 // How an item compares with what is sought, or that it cannot be read.
@@ -174,6 +174,30 @@ pub fn quick_lookup(doc: &[u8], cursor: TreeOffset, key: &[u8]) -> Looked
     }
 }
 
+// Whether a text is a key, or that it cannot be read.
+pub enum Matched {
+    Same,
+    Other,
+    Bad,
+}
+
+// Whether the text that an offset names is a key.
+fn match_text(doc: &[u8], a: Areas, at: SlotOffset, key: &[u8]) -> Matched
+    requires { ⌜ Laid (now doc) a ⌝ }
+    ensures { λ r. ⌜ TextMatched (now (doc .entry)) (at .0) (now (key .entry)) r ⌝ }
+{
+    let t = binary_json_areas::named::text_named(doc, a, at);
+    match t {
+        Texted::Bad => Matched::Bad,
+        Texted::At { place, len } => {
+            if text::same(bytes(doc, place, len), key) {
+                return Matched::Same;
+            }
+            Matched::Other
+        }
+    }
+}
+
 fn scan(doc: &[u8], a: Areas, c: usize, n: usize, key: &[u8]) -> Scanned
     requires { ⌜ ObjectAt (now doc) a c n ⌝ }
     ensures { λ r. ⌜ toldScan r ≡ ask (plainScan (now (doc .entry)) c (now (key .entry))) ⌝ }
@@ -181,25 +205,20 @@ fn scan(doc: &[u8], a: Areas, c: usize, n: usize, key: &[u8]) -> Scanned
     let mut j = 0;
     while j < n {
         let v = binary_json_areas::areas::word_at(doc, c + 4 + 4 * j);
-        let o = compare_text(doc, a, SlotOffset(v), key);
-        match o {
-            Compared::Bad => {
+        let m = match_text(doc, a, SlotOffset(v), key);
+        match m {
+            Matched::Bad => {
                 return Scanned::Refused(Refusal {
                     number: 20,
                     place: c,
                 });
             }
-            Compared::Of(order) => match order {
-                Order::Below => {
-                    j += 1;
-                }
-                Order::Equal => {
-                    return Scanned::Entry(TreeOffset(c + 4 + 4 * n + 4 * j));
-                }
-                Order::Above => {
-                    j += 1;
-                }
-            },
+            Matched::Same => {
+                return Scanned::Entry(TreeOffset(c + 4 + 4 * n + 4 * j));
+            }
+            Matched::Other => {
+                j += 1;
+            }
         }
     }
     Scanned::Absent

@@ -1,9 +1,9 @@
 // Chains of keys whose texts fall into one bucket. Half of the links are for buckets, each with the last key passed of its
 // bucket, the other half for keys, each with the key before it in its bucket.
 use crate::pairs::scan;
-use fractured_json_values::texts::same;
 use fractured_json_values::texts::text_of;
 use json::limits::MOST_KEYS;
+use text::same;
 ghost use mathlib.Core.Path.{_≡_};
 ghost use Prim.Native.Nat.{_*_, _^_, _≤_, _<_};
 ghost use lib.ListN.{length, getD};

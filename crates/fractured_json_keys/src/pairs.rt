@@ -1,7 +1,7 @@
 // The pairs of the lent table.
-use fractured_json_values::texts::same;
 use fractured_json_values::texts::text_of;
 use fractured_json_values::texts::word_of;
+use text::same;
 ghost use mathlib.Core.Path.{_≡_};
 ghost use Prim.Native.Nat.{_/_, _^_, _<_, min};
 ghost use lib.ListN.{length};

@@ -1,11 +1,9 @@
 // Texts of the document, and the words and room of a key table.
-use json::Order;
 use json::limits::MOST_KEYS;
 ghost use mathlib.Core.Path.{_≡_};
 ghost use Prim.Native.Nat.{_^_, _<_};
 ghost use lib.ListN.{length, getD};
 ghost use Rattle.json.specs.Bytes.{part};
-ghost use Rattle.json.specs.Texts.{compareTexts, isEqual};
 ghost use Rattle.fractured_json_rules.specs.KeyTable.{roomOf};
 
 // The bytes of a text that start at a place, as far as the document goes.
@@ -20,21 +18,6 @@ pub fn text_of(doc: &[u8], start: usize, len: usize) -> &[u8]
     }
     let end = start + len;
     &doc[start..end]
-}
-
-// Are two texts the same?
-pub fn same(a: &[u8], b: &[u8]) -> bool
-    ensures { λ r. ⌜ r ≡ isEqual (compareTexts (now (a .entry)) (now (b .entry))) ⌝ }
-{
-    if a.len() != b.len() {
-        return false;
-    }
-    let o = text::compare(a, b);
-    match o {
-        Order::Below => false,
-        Order::Equal => true,
-        Order::Above => false,
-    }
 }
 
 // The word at a place of the table, as a number to count with.

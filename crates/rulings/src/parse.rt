@@ -1,5 +1,5 @@
 // The parts of a row: words, numbers and texts in hexadecimal.
-use json::Order;
+use text::same;
 
 // What a part says, a number or the length of a text.
 pub enum Said {
@@ -24,15 +24,6 @@ pub(crate) fn cut(text: &[u8], from: usize, to: usize) -> &[u8] {
         return &text[..0];
     }
     &text[from..to]
-}
-
-pub(crate) fn same(a: &[u8], b: &[u8]) -> bool {
-    let o = text::compare(a, b);
-    match o {
-        Order::Below => false,
-        Order::Equal => true,
-        Order::Above => false,
-    }
 }
 
 // Where a byte first stands in the text, from `from` on, or the text's length.

@@ -5,10 +5,10 @@ use crate::parse::Said;
 use crate::parse::bytes;
 use crate::parse::cut;
 use crate::parse::part;
-use crate::parse::same;
 use crate::parse::which;
 use crate::spell::put_text;
 use libc::STDOUT_FILENO;
+use text::same;
 
 // How many bytes of the mark ` = ` are met, once `c` is read behind `k` of them.
 fn step(k: usize, c: u8) -> usize {

@@ -1,6 +1,6 @@
 -- What two texts' order is, from a place from which on the order of the rest is theirs: one law for each way through `compare`.
-use mathlib.Core.Path.{_≡_, refl, sym, subst, _∙_}
-use mathlib.Core.Bool.{Bool, true}
+use mathlib.Core.Path.{_≡_, refl, sym, subst, ap, _∙_}
+use mathlib.Core.Bool.{Bool, true, false}
 use mathlib.Core.List.{List}
 use Prim.Native.Nat.{ℕ, zero, suc, _+_, _-_, _%_, _≤_, _<_}
 use native.Mathlib.Numerals.{add-one}
@@ -15,8 +15,10 @@ use lib.Seq.{drop-cons}
 use Rattle.json.specs.Bytes.{Bytes, number}
 use Rattle.json.specs.Choose.{choose}
 use Rattle.word.proofs.Laws.{number-part}
-use Rattle.json.specs.Texts.{byNumbers, compareTexts}
+use Rattle.json.specs.Texts.{byNumbers, compareTexts, isEqual}
+use Rattle.json.proofs.Texts.{texts-equal}
 use Rattle.text.specs.OrderFrom.{OrderFrom}
+use Rattle.json.specs.declared.Order.{Order}
 use Rattle.json.specs.declared.Order.the-variants.{Below, Equal, Above}
 
 pub order-first : (a b : List ℕ) → OrderFrom a b 0
@@ -76,3 +78,26 @@ eight-equal a b i n stop r e t ga gb ha hb u v w h g =
     same-bytes a b (λ k. ga k .fits) (λ k. gb k .fits) 8 i (omega arith) (omega arith) (eqb→eq (number a i 8) (number b i 8) yes) g
 
 pub ruleset answers = (order-first, eight-read, eight-equal, byte-below, byte-above, byte-equal, second-ends, first-ends, both-end, needs)
+
+-- ---- are two texts the same?
+
+module _ (a b : List ℕ) where
+  pub unlike-lengths : (length a ≡ length b → ⊥) → false ≡ isEqual (compareTexts a b)
+  unlike-lengths h = by (compareTexts a b) (λ e. h (ap length (texts-equal a b .0 e)))
+    where
+      by : (o : Order) → (o ≡ Equal → ⊥) → false ≡ isEqual o
+      by Below n = refl
+      by Equal n = absurd (n refl)
+      by Above n = refl
+
+  module _ (o : Order) (e : o ≡ compareTexts a b) where
+    pub same-below : o ≡ Below → false ≡ isEqual (compareTexts a b)
+    same-below q = rw (← e, q)
+
+    pub same-equal : o ≡ Equal → true ≡ isEqual (compareTexts a b)
+    same-equal q = rw (← e, q)
+
+    pub same-above : o ≡ Above → false ≡ isEqual (compareTexts a b)
+    same-above q = rw (← e, q)
+
+pub ruleset same-laws = (unlike-lengths, same-below, same-equal, same-above, needs)

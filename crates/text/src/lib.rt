@@ -1,4 +1,4 @@
-// The order of two texts, and a hash of a text.
+// The order of two texts, whether they are the same, and a hash of a text.
 pub mod hash;
 
 use json::Order;
@@ -7,7 +7,7 @@ ghost use Prim.Native.Nat.{_+_, _≤_};
 ghost use lib.Dec.{eqb};
 ghost use lib.ListN.{length};
 ghost use Rattle.json.specs.Bytes.{number};
-ghost use Rattle.json.specs.Texts.{compareTexts};
+ghost use Rattle.json.specs.Texts.{compareTexts, isEqual};
 ghost use Rattle.text.specs.OrderFrom.{OrderFrom};
 
 fn shorter(a: &[u8], b: &[u8]) -> usize
@@ -69,4 +69,19 @@ pub fn compare(a: &[u8], b: &[u8]) -> Order
         return Order::Below;
     }
     Order::Equal
+}
+
+// Whether two texts are the same. Texts of unlike lengths are told without a look at their bytes.
+pub fn same(a: &[u8], b: &[u8]) -> bool
+    ensures { λ r. ⌜ r ≡ isEqual (compareTexts (now (a .entry)) (now (b .entry))) ⌝ }
+{
+    if a.len() != b.len() {
+        return false;
+    }
+    let o = compare(a, b);
+    match o {
+        Order::Below => false,
+        Order::Equal => true,
+        Order::Above => false,
+    }
 }

@@ -24,8 +24,8 @@ add-word-at-2 c = search scan-laws
 word-at-requires : tie.Need-word-at-requires Inv-loop μ-loop
 word-at-requires c κs = search scan-laws
 
-compare-text-requires : tie.Need-compare-text-requires Inv-loop μ-loop
-compare-text-requires c κs = search scan-laws
+match-text-requires : tie.Need-match-text-requires Inv-loop μ-loop
+match-text-requires c κs = search scan-laws
 
 enum-told : tie.Need-enum-told Inv-loop μ-loop
 enum-told c = search scan-laws
@@ -33,11 +33,29 @@ enum-told c = search scan-laws
 returns : tie.Need-returns Inv-loop μ-loop
 returns c = search scan-laws
 
-enum-known-o : tie.Need-enum-known-o Inv-loop μ-loop
-enum-known-o c = search scan-laws
-
 enum-told-2 : tie.Need-enum-told-2 Inv-loop μ-loop
 enum-told-2 c = search scan-laws
+
+add-t15 : tie.Need-add-t15 Inv-loop μ-loop
+add-t15 c = search scan-laws
+
+mul-t16 : tie.Need-mul-t16 Inv-loop μ-loop
+mul-t16 c = search scan-laws
+
+add-t17 : tie.Need-add-t17 Inv-loop μ-loop
+add-t17 c = search scan-laws
+
+mul-t18 : tie.Need-mul-t18 Inv-loop μ-loop
+mul-t18 c = search scan-laws
+
+add-t19 : tie.Need-add-t19 Inv-loop μ-loop
+add-t19 c = search scan-laws
+
+returns-2 : tie.Need-returns-2 Inv-loop μ-loop
+returns-2 c = search scan-laws
+
+enum-told-3 : tie.Need-enum-told-3 Inv-loop μ-loop
+enum-told-3 c = search scan-laws
 
 add-j : tie.Need-add-j Inv-loop μ-loop
 add-j c = search scan-laws
@@ -47,39 +65,6 @@ loop-less c = search scan-laws
 
 loop-again : tie.Need-loop-again Inv-loop μ-loop
 loop-again c = search scan-laws
-
-enum-told-3 : tie.Need-enum-told-3 Inv-loop μ-loop
-enum-told-3 c = search scan-laws
-
-add-t16 : tie.Need-add-t16 Inv-loop μ-loop
-add-t16 c = search scan-laws
-
-mul-t17 : tie.Need-mul-t17 Inv-loop μ-loop
-mul-t17 c = search scan-laws
-
-add-t18 : tie.Need-add-t18 Inv-loop μ-loop
-add-t18 c = search scan-laws
-
-mul-t19 : tie.Need-mul-t19 Inv-loop μ-loop
-mul-t19 c = search scan-laws
-
-add-t20 : tie.Need-add-t20 Inv-loop μ-loop
-add-t20 c = search scan-laws
-
-returns-2 : tie.Need-returns-2 Inv-loop μ-loop
-returns-2 c = search scan-laws
-
-enum-told-4 : tie.Need-enum-told-4 Inv-loop μ-loop
-enum-told-4 c = search scan-laws
-
-add-j-2 : tie.Need-add-j-2 Inv-loop μ-loop
-add-j-2 c = search scan-laws
-
-loop-less-2 : tie.Need-loop-less-2 Inv-loop μ-loop
-loop-less-2 c = search scan-laws
-
-loop-again-2 : tie.Need-loop-again-2 Inv-loop μ-loop
-loop-again-2 c = search scan-laws
 
 returns-3 : tie.Need-returns-3 Inv-loop μ-loop
 returns-3 c = search scan-laws
@@ -95,23 +80,18 @@ scan-spec =
     mul-word-at
     add-word-at-2
     word-at-requires
-    compare-text-requires
+    match-text-requires
     enum-told
     returns
-    enum-known-o
     enum-told-2
+    add-t15
+    mul-t16
+    add-t17
+    mul-t18
+    add-t19
+    returns-2
+    enum-told-3
     add-j
     loop-less
     loop-again
-    enum-told-3
-    add-t16
-    mul-t17
-    add-t18
-    mul-t19
-    add-t20
-    returns-2
-    enum-told-4
-    add-j-2
-    loop-less-2
-    loop-again-2
     returns-3)

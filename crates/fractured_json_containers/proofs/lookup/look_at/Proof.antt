@@ -4,7 +4,7 @@ use Rattle.fractured_json_containers.proofs.lookup.look_at.Statement.{s
 use Rattle.fractured_json_containers.proofs.lookup.look_at.Tie as tie
 use Rattle.fractured_json_containers.proofs.lookup.look_at.Reads as reads
 use Rattle.fractured_json_containers.proofs.lookup.look_at.Lts as lts
-use Rattle.fractured_json_values.proofs.texts.same.Reads as same-reads
+use Rattle.text.proofs.same.Reads as same-reads
 use Rattle.fractured_json_values.proofs.texts.text_of.Reads as text-of-reads
 use Rattle.fractured_json_containers.proofs.skip.read_key.Reads as read-key-reads
 use Rattle.fractured_json_containers.proofs.skip.skip.Reads as skip-reads

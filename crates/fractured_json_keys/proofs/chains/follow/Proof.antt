@@ -10,7 +10,7 @@ use Rattle.fractured_json_keys.proofs.chains.follow.Lts as lts
 use Rattle.fractured_json_keys.proofs.chains.buckets.Reads as buckets-reads
 use Rattle.fractured_json_keys.proofs.chains.link_at.Reads as link-at-reads
 use Rattle.fractured_json_keys.proofs.chains.word_at.Reads as word-at-reads
-use Rattle.fractured_json_values.proofs.texts.same.Reads as same-reads
+use Rattle.text.proofs.same.Reads as same-reads
 use Rattle.fractured_json_values.proofs.texts.text_of.Reads as text-of-reads
 
 abbrev Inv-loop : tie.InvT-loop

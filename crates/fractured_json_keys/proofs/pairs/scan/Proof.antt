@@ -10,7 +10,7 @@ use Rattle.fractured_json_keys.proofs.pairs.scan.Tie as tie
 use Rattle.fractured_json_keys.proofs.pairs.scan.Reads as reads
 use Rattle.fractured_json_keys.proofs.pairs.scan.Lts as lts
 use Rattle.fractured_json_keys.proofs.pairs.held.Reads as held-reads
-use Rattle.fractured_json_values.proofs.texts.same.Reads as same-reads
+use Rattle.text.proofs.same.Reads as same-reads
 use Rattle.fractured_json_values.proofs.texts.text_of.Reads as text-of-reads
 use Rattle.fractured_json_values.proofs.texts.word_of.Reads as word-of-reads
 
