@@ -81,7 +81,8 @@ uint32_t fj_end(const uint8_t *doc, size_t doc_len, const uint32_t *keys, size_t
                 uint64_t *out, size_t out_len);
 
 /* Asks for the kind of a value.
-   Returns 0 and writes 0 null, 1 false, 2 true, 3 number, or 4 string, 5 object, 6 array with its length; needs 2 words. */
+   Returns 0 and writes 0 null, 1 false, 2 true, 3 number, or 4 string, 5 object, 6 array with its length, or a
+   refusal; needs 2 words. */
 uint32_t fj_kind(const uint8_t *doc, size_t doc_len, size_t at, uint64_t *out, size_t out_len);
 
 /* Asks for a number.

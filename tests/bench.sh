@@ -32,7 +32,7 @@ row '010100000000000000000000\n464A016F046102\n020100000000000000000000\n0Z\n' '
 # zeros N: N characters 0
 zeros() { head -c "$1" /dev/zero | tr '\0' 0; }
 
-# `long` comes before `hex`: 32,768 characters, one fewer, one more, one of them bad, and a CR behind them
+# `long` comes before `hex`: 32,768 characters, one fewer, one more, one of them bad, and a CR after them
 { zeros 32768; echo; zeros 32767; echo; zeros 32769; echo; zeros 32767; echo Z; zeros 32768; printf '\r\n'; } >"$work/in"
 printf 'frames\n1 B no 3 0\n2 hex\n3 long\n4 hex\n5 long\ntotal 5 ok 0\n' >"$work/want"
 same 'long before hex'

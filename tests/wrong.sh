@@ -9,9 +9,10 @@ wrong=0 shown=0
 # fails LOG FUNCTION: a fact of the function fails, in its proof file or, where it has none, in the proof that the prover makes.
 # Without a function: any fact.
 fails() {
-    local proof=${2:+/${2//:://}/Proof.antt:}
-    grep ': error: ' "$1" | grep -F "${proof:-/}" | grep -vq -e 'was not admitted' -e 'has no `Need-' ||
-        grep '^fn .*: no proof: .*`search` does not close' "$1" | grep -Fq "${2:+::$2: }"
+    awk -v file="${2:+/${2//:://}/Proof.antt:}" -v name="${2:+::$2: }" '
+        /: error: / && (file == "" || index($0, file)) && !/was not admitted/ && !/has no `Need-/ { failed = 1 }
+        /^fn .*: no proof: .*`search` does not close/ && (name == "" || index($0, name)) { failed = 1 }
+        END { exit !failed }' "$1"
 }
 
 for edit in crates/*/must-fail/*.edit; do

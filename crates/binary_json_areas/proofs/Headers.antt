@@ -8,6 +8,7 @@ use lib.Dec.{leb, eqb, le→leb}
 use lib.ListN.{length}
 use mir.Syntax.{w64}
 use mir.Val.{Fits}
+use Rattle.json.specs.Limits.{leastBinary, longest}
 use Rattle.json.specs.Reading.{Reading, ask, refuses, _>>=_, _>>_, need}
 use Rattle.json.proofs.Reading.{eq→eqb, over, unlike, pass, fail, need-yes, need-no}
 use Rattle.binary_json_rules.specs.Areas.{word, low, high, index, count, slot}
@@ -25,16 +26,16 @@ rule4 doc = do
   need (leb (slot doc (count doc)) (length doc)) 4 (index doc)
 
 module _ (doc : List ℕ) where
-  pub too-short : length doc < 12 → ask (header doc) ≡ refuses 1 (length doc)
+  pub too-short : length doc < leastBinary → ask (header doc) ≡ refuses 1 (length doc)
   unfolding header
   too-short h = fail _ _ _ _ tt (over h)
 
-  module _ (a : 12 ≤ length doc) where
-    pub too-long : 65_536 < length doc → ask (header doc) ≡ refuses 2 (length doc)
+  module _ (a : leastBinary ≤ length doc) where
+    pub too-long : longest < length doc → ask (header doc) ≡ refuses 2 (length doc)
     unfolding header
     too-long h = pass _ _ _ _ tt (le→leb _ _ a) ∙ fail _ _ _ _ tt (over h)
 
-    module _ (b : length doc ≤ 65_536) (v : ℕ) (vs : v ≡ low doc 0) where
+    module _ (b : length doc ≤ longest) (v : ℕ) (vs : v ≡ low doc 0) where
       pub other-version : (v ≡ 1 → ⊥) → ask (header doc) ≡ refuses 3 0
       unfolding header
       other-version h = pass _ _ _ _ tt (le→leb _ _ a) ∙ (pass _ _ _ _ tt (le→leb _ _ b) ∙ fail _ _ _ _ tt (unlike (λ e. h (vs ∙ e))))

@@ -8,6 +8,7 @@ use borrow.Author.Needs.{needs}
 use lib.Dec.{T, leb, ltb, le→leb, lt→ltb}
 use mir.Syntax.{w64}
 use mir.Val.{Fits}
+use Rattle.json.specs.Limits.{longest}
 use Rattle.json.specs.Reading.{Reading, refuse, ask, answers, refuses, told, _>>=_, need}
 use Rattle.json.specs.declared.Refusal.{Refusal}
 use Rattle.json.specs.declared.Verdict.{Verdict}
@@ -232,7 +233,7 @@ module _ (doc : List ℕ) (a : Areas) (x : Laid doc a) (levels o : ℕ) (some : 
       record { same = g .1 (container (levels - 1) doc) ∙ container-is doc levels o some; inside = omega arith }
 
 module _ (doc : List ℕ) (a : Areas) (x : Laid doc a) (o : ℕ) (b : Body) (h : BodyIs doc o b) (f n : ℕ) (e : b ≡ Body.Entries f n) where
-  body-ends : f + 4 * n ≤ 65_536
+  body-ends : f + 4 * n ≤ longest
   unfolding BodyIs
   body-ends =
       let g : BodyIs doc o (Body.Entries f n) = rw e at h in

@@ -14,9 +14,8 @@ use Rattle.json.specs.declared.Verdict.{Verdict}
 use Rattle.json.proofs.Cases.{refusal, verdictIs, verdict-is, answered-exactly}
 use Rattle.json.proofs.Reading.{halt≢done}
 use Rattle.fractured_json_rules.specs.Meaning.{noKey, Keys, Means}
-use Rattle.fractured_json_rules.specs.Verdict.{verdict}
+use Rattle.fractured_json_rules.specs.Verdict.{verdict, keysOf}
 use Rattle.fractured_json_rules.specs.KeyTable.{roomOf, keyOf, checkedBy, checked}
-use Rattle.fractured_json_rules.specs.TreeOf.{keysOf}
 use Rattle.fractured_json_rules.specs.Leads.{Leads, StandsFor}
 use Rattle.fractured_json_rules.specs.Questions.{readKey, endOf, kind, numberAt, stringAt, stringBytes, elementAt, memberAt, firstMember}
 use Rattle.fractured_json_rules.specs.Questions as Questions

@@ -1,4 +1,4 @@
-// What the check answers. specs/Told.antt gives each case its number and values.
+// What the check answers. specs/Told.antt says what it means.
 use json::Verdict;
 
 // The verdict of the check, and the number of pairs in the key table.

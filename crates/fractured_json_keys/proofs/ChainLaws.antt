@@ -12,6 +12,7 @@ use mir.Val.{Fits}
 use lib.ListN.{length, getD, set, List·getD-eq-default}
 use Rattle.json.specs.Bytes.{part}
 use Rattle.json.specs.Choose.{choose}
+use Rattle.json.specs.Limits.{mostKeys}
 use Rattle.json.specs.Texts.{compareTexts, isEqual}
 use Rattle.text.specs.Hash.{hashOf}
 use Rattle.text.proofs.Hashing.{hash-small}
@@ -21,22 +22,22 @@ use Rattle.fractured_json_keys.specs.Chains.{bucketsIn, bucketOf, follow
 
 -- ---- buckets
 
-pub buckets-half : (links : List ℕ) → length links / 2 < 4_096 → length links / 2 ≡ bucketsIn links
+pub buckets-half : (links : List ℕ) → length links / 2 < mostKeys → length links / 2 ≡ bucketsIn links
 unfolding bucketsIn
 buckets-half links h = omega arith
 
-pub buckets-most : (links : List ℕ) → 4_096 ≤ length links / 2 → 4_096 ≡ bucketsIn links
+pub buckets-most : (links : List ℕ) → mostKeys ≤ length links / 2 → mostKeys ≡ bucketsIn links
 unfolding bucketsIn
 buckets-most links h = omega arith
 
 pub ruleset buckets-laws = (buckets-half, buckets-most, needs)
 
 module _ (t x : List ℕ) (h n : ℕ) (e : h ≡ hashOf x) (same : x ≡ t) where
-  pub product-fits : n ≤ 4_096 → Fits w64 (h * n)
+  pub product-fits : n ≤ mostKeys → Fits w64 (h * n)
   product-fits l =
       let s = hash-small x in
       let b : h ≤ 4_294_967_296 = omega arith in
-      let p : h * n ≤ 4_294_967_296 * 4_096 = mul-le-mul b l in
+      let p : h * n ≤ 4_294_967_296 * mostKeys = mul-le-mul b l in
       record { fits = omega arith }
 
   pub bucket-is : (links : List ℕ) → n ≡ bucketsIn links → h * n / 4_294_967_296 ≡ bucketOf t (bucketsIn links)

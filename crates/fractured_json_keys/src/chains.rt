@@ -8,11 +8,12 @@ ghost use mathlib.Core.Path.{_≡_};
 ghost use Prim.Native.Nat.{_*_, _^_, _≤_, _<_};
 ghost use lib.ListN.{length, getD};
 ghost use Rattle.json.specs.Bytes.{part};
+ghost use Rattle.json.specs.Limits.{mostKeys};
 ghost use Rattle.fractured_json_keys.specs.Chains.{bucketsIn, bucketOf, followed, seenIn, linkedIn};
 
 // How many buckets there are links for.
 fn buckets(links: &[u16]) -> usize
-    ensures { λ r. ⌜ (r ≡ bucketsIn (now (links .entry))) × (2 * r ≤ length (now (links .entry))) × (r ≤ 4096) ⌝ }
+    ensures { λ r. ⌜ (r ≡ bucketsIn (now (links .entry))) × (2 * r ≤ length (now (links .entry))) × (r ≤ mostKeys) ⌝ }
 {
     let half = links.len() / 2;
     if half < MOST_KEYS {

@@ -3,20 +3,20 @@ use Prim.Native.Nat.{ℕ, _+_, _*_, _/_, _≤_, _<_, max, min}
 use mathlib.Core.Bool.{Bool}
 use mathlib.Core.List.{List, []}
 use mathlib.Core.Logic.{_↔_}
-use mathlib.Core.Path.{_≡_, refl, sym, ap, _∙_, subst}
+use mathlib.Core.Path.{_≡_, refl, sym, _∙_, subst}
 use native.Mathlib.Omega.{arith}
 use lib.Dec.{eqb-refl, lt→ltb, ltb→lt}
 use lib.ListN.{length, getD}
 use Rattle.json.specs.Bytes.{Bytes, part}
 use Rattle.json.specs.Limits.{deepest, mostKeys}
-use Rattle.json.specs.Reading.{Outcome, halt, done, Asked, ask, answers, refuses}
+use Rattle.json.specs.Reading.{Outcome, done, Asked, ask, answers, refuses}
 use Rattle.json.specs.Tree.{Tree, num, str, arr, obj, Trees, Members, size, sizem, depth, ElementIs, MemberIs, Lacks, NoNumber, NoString, NoArray, NoObject, Subtree}
 use Rattle.json.proofs.Reading.{then, stops, pass, fail, need-yes}
 use Rattle.json.proofs.Tree.{element-at, member-at, member-below, subtree-depth}
 use Rattle.fractured_json_rules.specs.Meaning.{noKey, Keys, afterLength, Means}
-use Rattle.fractured_json_rules.specs.Verdict.{checkKey, check, verdict}
-use Rattle.fractured_json_rules.specs.KeyTable.{roomOf, stored, keyOf, checkedBy, checked}
-use Rattle.fractured_json_rules.specs.TreeOf.{keysOf, treeOf, lengthIn, keyEnd}
+use Rattle.fractured_json_rules.specs.Verdict.{checkKey, check, verdict, keysOf}
+use Rattle.fractured_json_rules.specs.KeyTable.{roomOf, keyOf, checked}
+use Rattle.fractured_json_rules.specs.TreeOf.{treeOf, lengthIn, keyEnd}
 use Rattle.fractured_json_rules.specs.Leads.{elementPlace, keyPlace, Leads, element, value, StandsFor}
 use Rattle.fractured_json_rules.specs.Questions.{readKey, passKey, endOf, kind, numberAt, stringAt, stringBytes, elementFrom, elementAt, MemberAt}
 use Rattle.fractured_json_rules.specs.Questions.{memberFrom, memberAt, Found, valueAt, absent, firstMember}
@@ -38,7 +38,7 @@ use Rattle.fractured_json_rules.proofs.Questions.{opening-is, asked, ki
 pub accepted-keys : (room : ℕ) (doc : List ℕ) (t : Tree) (m : Means doc t) → length (m .keys) ≤ room → verdict room doc ≡ done tt (m .keys)
 unfolding check
 accepted-keys room doc t m r =
-    then _ _ [] (header-is doc [] (m .opens))
+    then _ _ [] (header-is doc [] (m .headed))
     ∙ (then _ _ [] (walks doc (checkKey room doc) (m .keys) (λ ks. ks) (λ k o ks e kz h g. let less = first-length g in key-passes room doc k o ks e kz h (omega arith))
     t deepest 3 [] (length doc) (m .keys) (m .root) (first-all (m .keys)) (m .nested))
     ∙ need-yes _ _ _ (m .keys) (eqb-refl (length doc)))
@@ -72,21 +72,16 @@ pub record TableKept (doc words : List ℕ) : Type 0 where
   pub each-pair : (j : ℕ) → j < checked doc words .count → keyOf (checked doc words .words) j ≡ getD (keysOf (verdict (roomOf words) doc)) j noKey
   pub all-others : (i : ℕ) → 2 * checked doc words .count ≤ i → getD (checked doc words .words) i 0 ≡ getD words i 0
 
-checked-is : (words : List ℕ) (r : Outcome Keys (Unit {0})) → (checkedBy words r .count ≡ length (keysOf r)) × (checkedBy words r .words ≡ stored (keysOf r) words)
-checked-is words (halt n p ks) = (refl, refl)
-checked-is words (done u ks) = (refl, refl)
-
 pub table-kept : (doc words : List ℕ) → TableKept doc words
 table-kept doc words =
     let ks = keysOf (verdict (roomOf words) doc) in
-    let (count, after) = checked-is words (verdict (roomOf words) doc) in
     let fits = passed-room (roomOf words) doc in
     let room = room-words words (length ks) fits in
     record {
-      bounded = rw count fits;
-      as-long = ap length after ∙ stored-length ks words room;
-      each-pair = λ j h. ap (λ w. keyOf w j) after ∙ stored-pair ks words j (omega arith);
-      all-others = λ i h. ap (λ w. getD w i 0) after ∙ stored-other ks words i (omega arith);
+      bounded = fits;
+      as-long = stored-length ks words room;
+      each-pair = λ j h. stored-pair ks words j h;
+      all-others = λ i h. stored-other ks words i h;
     }
 
 -- ---- Every value that the root leads to stands for one subtree of the document's tree.
@@ -138,7 +133,7 @@ module _ (doc : List ℕ) (t : Tree) (m : Means doc t) {o : ℕ} (l : Leads doc 
 
   pub kind-answer : (u : Tree) → StandsFor doc (m .keys) o u → ask (kind doc o) ≡ answers (kindOf u)
   unfolding kind
-  kind-answer u s = asked doc (m .opens) o _ u _ _ _ (below u s .0) (s .value) ∙ kind-is doc u o _ _ _ (s .value)
+  kind-answer u s = asked doc (m .headed) o _ u _ _ _ (below u s .0) (s .value) ∙ kind-is doc u o _ _ _ (s .value)
 
   -- the type byte is the byte at o; `Bytes doc` says that each item of the document is a byte, as of every lent `&[u8]`
   pub number-answer : Bytes doc → (s : Bool) (k : ℕ) → StandsFor doc (m .keys) o (num s k)
@@ -146,23 +141,23 @@ module _ (doc : List ℕ) (t : Tree) (m : Means doc t) {o : ℕ} (l : Leads doc 
   unfolding numberAt
   number-answer bytes s k n =
       let (b, e, v) = number-is doc bytes s k o _ (n .value .0) in
-      (b, asked doc (m .opens) o _ (num s k) _ _ _ (below (num s k) n .0) (n .value) ∙ e, v)
+      (b, asked doc (m .headed) o _ (num s k) _ _ _ (below (num s k) n .0) (n .value) ∙ e, v)
 
   pub number-wrong : (u : Tree) → StandsFor doc (m .keys) o u → NoNumber u → ask (numberAt doc o) ≡ refuses 21 o
   unfolding numberAt
-  number-wrong u s n = asked doc (m .opens) o _ u _ _ _ (below u s .0) (s .value) ∙ no-number doc u o _ _ _ (s .value) n
+  number-wrong u s n = asked doc (m .headed) o _ u _ _ _ (below u s .0) (s .value) ∙ no-number doc u o _ _ _ (s .value) n
 
   -- the length is the text's, and the text ends where the value does
   pub string-answer : (x : List ℕ) (s : StandsFor doc (m .keys) o (str x))
       → (p : ℕ) × (ask (stringAt doc o) ≡ answers (record { place = p; len = length x })) × (part doc p (length x) ≡ x) × (p + length x ≡ s .past)
-  string-answer x s = string-is doc (m .opens) o (below (str x) s .0) x _ _ _ (s .value)
+  string-answer x s = string-is doc (m .headed) o (below (str x) s .0) x _ _ _ (s .value)
 
   pub string-bytes : (x : List ℕ) → StandsFor doc (m .keys) o (str x) → stringBytes doc o ≡ x
   string-bytes x s = let (p, e, v, past) = string-answer x s in rw e v
 
   pub string-wrong : (u : Tree) → StandsFor doc (m .keys) o u → NoString u → ask (stringAt doc o) ≡ refuses 21 o
   unfolding stringAt
-  string-wrong u s n = stops _ _ tt (no-string doc (m .opens) o (below u s .0) u _ _ _ (s .value) n)
+  string-wrong u s n = stops _ _ tt (no-string doc (m .headed) o (below u s .0) u _ _ _ (s .value) n)
 
   pub string-bytes-wrong : (u : Tree) → StandsFor doc (m .keys) o u → NoString u → stringBytes doc o ≡ []
   string-bytes-wrong u s n = rw (string-wrong u s n)
@@ -189,7 +184,7 @@ module _ (doc : List ℕ) (t : Tree) (m : Means doc t) (words : List ℕ) (roomy
         let (b, sub) = below doc t m l u s in
         let d = subtree-depth t sub in
         let n = m .nested in
-        then _ _ tt (opening-is doc (m .opens) o b) ∙ walks-value doc (m .keys) _ _ holds u deepest o _ _ _ (s .value) (s .first) (omega arith)
+        then _ _ tt (opening-is doc (m .headed) o b) ∙ walks-value doc (m .keys) _ _ holds u deepest o _ _ _ (s .value) (s .first) (omega arith)
 
     -- ---- element i
 
@@ -209,7 +204,7 @@ module _ (doc : List ℕ) (t : Tree) (m : Means doc t) (words : List ℕ) (roomy
           place = elementPlace doc o x i;
           tree = v;
           answered =
-              then _ _ tt (array-length doc (m .opens) o b ts _ _ _ (s .value))
+              then _ _ tt (array-length doc (m .headed) o b ts _ _ _ (s .value))
               ∙ (pass _ _ _ _ tt (lt→ltb _ _ h) ∙ walks-to-element doc (m .keys) _ _ holds ts i _ _ _ _ (s .value .3) (s .first) (omega arith) h);
           led-to = element o x i l form (omega arith);
           stands = r;
@@ -221,12 +216,12 @@ module _ (doc : List ℕ) (t : Tree) (m : Means doc t) (words : List ℕ) (roomy
     unfolding elementAt elementFrom
     element-past ts i s h =
         let (b, sub) = below doc t m l (arr ts) s in
-        then _ _ tt (array-length doc (m .opens) o b ts _ _ _ (s .value)) ∙ fail _ _ _ _ tt (λ y. let z = ltb→lt i (size ts) y in omega arith)
+        then _ _ tt (array-length doc (m .headed) o b ts _ _ _ (s .value)) ∙ fail _ _ _ _ tt (λ y. let z = ltb→lt i (size ts) y in omega arith)
 
     pub element-wrong : (u : Tree) (i : ℕ) → StandsFor doc (m .keys) o u → NoArray u
         → ask (elementAt doc (checked doc words .words) (checked doc words .count) o i) ≡ refuses 21 o
     unfolding elementAt
-    element-wrong u i s n = stops _ _ tt (no-array doc (m .opens) o (below doc t m l u s .0) u _ _ _ (s .value) n)
+    element-wrong u i s n = stops _ _ tt (no-array doc (m .headed) o (below doc t m l u s .0) u _ _ _ (s .value) n)
 
     -- ---- member j
 
@@ -249,7 +244,7 @@ module _ (doc : List ℕ) (t : Tree) (m : Means doc t) (words : List ℕ) (roomy
           key = k;
           tree = v;
           answered =
-              then _ _ tt (object-length doc (m .opens) o b ms _ _ _ (s .value))
+              then _ _ tt (object-length doc (m .headed) o b ms _ _ _ (s .value))
               ∙ (pass _ _ _ _ tt (lt→ltb _ _ h) ∙ (then _ _ tt (walks-to-member doc (m .keys) _ _ holds ms j _ _ _ _ (s .value .3) (s .first) (omega arith) h)
               ∙ then _ _ tt (then _ _ tt read)));
           key-read = read;
@@ -263,12 +258,12 @@ module _ (doc : List ℕ) (t : Tree) (m : Means doc t) (words : List ℕ) (roomy
     unfolding memberAt memberFrom
     member-past ms j s h =
         let (b, sub) = below doc t m l (obj ms) s in
-        then _ _ tt (object-length doc (m .opens) o b ms _ _ _ (s .value)) ∙ fail _ _ _ _ tt (λ y. let z = ltb→lt j (sizem ms) y in omega arith)
+        then _ _ tt (object-length doc (m .headed) o b ms _ _ _ (s .value)) ∙ fail _ _ _ _ tt (λ y. let z = ltb→lt j (sizem ms) y in omega arith)
 
     pub member-wrong : (u : Tree) (j : ℕ) → StandsFor doc (m .keys) o u → NoObject u
         → ask (memberAt doc (checked doc words .words) (checked doc words .count) o j) ≡ refuses 21 o
     unfolding memberAt
-    member-wrong u j s n = stops _ _ tt (no-object doc (m .opens) o (below doc t m l u s .0) u _ _ _ (s .value) n)
+    member-wrong u j s n = stops _ _ tt (no-object doc (m .headed) o (below doc t m l u s .0) u _ _ _ (s .value) n)
 
     -- ---- the first member by key
 
@@ -279,7 +274,7 @@ module _ (doc : List ℕ) (t : Tree) (m : Means doc t) (words : List ℕ) (roomy
         let (b, sub) = below doc t m l (obj ms) s in
         let d = subtree-depth t sub in
         let n = m .nested in
-        let begins = then _ _ tt (object-length doc (m .opens) o b ms _ _ _ (s .value)) in
+        let begins = then _ _ tt (object-length doc (m .headed) o b ms _ _ _ (s .value)) in
         led b sub begins (finds doc (m .keys) _ _ holds x ms (afterLength o (s .value .0)) _ _ _ (s .value .3) (s .first) (omega arith))
       where
         led : {r q : Asked Found} → 3 ≤ o → Subtree t (obj ms) → r ≡ q
@@ -296,4 +291,4 @@ module _ (doc : List ℕ) (t : Tree) (m : Means doc t) (words : List ℕ) (roomy
     pub first-member-wrong : (u : Tree) (x : List ℕ) → StandsFor doc (m .keys) o u → NoObject u
         → ask (firstMember doc (checked doc words .words) (checked doc words .count) o x) ≡ refuses 21 o
     unfolding firstMember
-    first-member-wrong u x s n = stops _ _ tt (no-object doc (m .opens) o (below doc t m l u s .0) u _ _ _ (s .value) n)
+    first-member-wrong u x s n = stops _ _ tt (no-object doc (m .headed) o (below doc t m l u s .0) u _ _ _ (s .value) n)

@@ -14,9 +14,8 @@ use Rattle.fractured_json_rules.specs.ByteTables.{Len, tiny, after, Form
 use Rattle.fractured_json_rules.specs.ByteTables.{KeyNumber, inByte, spelled, KeyForm, immediate, backReference, globalIndex, kReserved, keyFormOf}
 use Rattle.fractured_json_rules.specs.Meaning.{noKey, Keys}
 use Rattle.fractured_json_rules.specs.Verdict.{header, byteAt, payload, lengthAt, textAt, Numeral, afterSecond, afterFirst, keyNumberAt, inTurn, member, valueBy}
-use Rattle.fractured_json_rules.specs.Verdict.{value, keyBy, newKey, oldKey, checkKey, check, verdict}
+use Rattle.fractured_json_rules.specs.Verdict.{value, keyBy, newKey, oldKey, checkKey, check, verdict, keysOf}
 use Rattle.fractured_json_rules.specs.KeyTable.{roomOf, pairs, stored, keyOf}
-use Rattle.fractured_json_rules.specs.TreeOf.{keysOf}
 use Rattle.fractured_json_rules.proofs.Readers.{kept-is, keep-is}
 
 module _ (room : ℕ) where

@@ -12,7 +12,7 @@ use Rattle.json.specs.Tree.{Tree, null, bool, num, str, arr, obj, Trees, Member
 use Rattle.json.proofs.Bytes.{number-small}
 use Rattle.json.proofs.Reading.{then, pass, need-yes}
 use Rattle.fractured_json_rules.specs.ByteTables.{bytes, formOf}
-use Rattle.fractured_json_rules.specs.Meaning.{afterLength, TextIs, NumberIs, asTiny, asInt, asFloat, Keys, ValueIs, Opens}
+use Rattle.fractured_json_rules.specs.Meaning.{afterLength, TextIs, NumberIs, asTiny, asInt, asFloat, Keys, ValueIs, Headed}
 use Rattle.fractured_json_rules.specs.Verdict.{numeral}
 use Rattle.fractured_json_rules.specs.Questions.{opening, typeAt, kindBy, extended, tinyBits, numberBy, aString, anObject, anArray, wantedBy, wantedAt, stringAt}
 use Rattle.fractured_json_rules.specs.Answers.{kindOf, valueBy, valueOf}
@@ -37,12 +37,12 @@ module _ (doc : List ℕ) where
   text-length : (t : List ℕ) (o n : ℕ) → TextIs doc o n t → length t ≡ n
   text-length t o n h = let fits = h .inside in rw (h .same, length-take, length-drop) (omega arith)
 
-  pub opening-is : Opens doc → (o : ℕ) → 3 ≤ o → ask (opening doc o) ≡ answers tt
+  pub opening-is : Headed doc → (o : ℕ) → 3 ≤ o → ask (opening doc o) ≡ answers tt
   unfolding opening
   opening-is h o b = then _ _ tt (header-is doc tt h) ∙ need-yes _ _ _ tt (le→leb _ _ b)
 
   -- every question but the end begins so
-  pub asked : Opens doc → {A : Type 0} (o : ℕ) (by : ℕ → Reading (Unit {0}) A) (u : Tree) (ks : Keys) (e : ℕ) (kz : Keys) → 3 ≤ o → ValueIs doc u o ks e kz
+  pub asked : Headed doc → {A : Type 0} (o : ℕ) (by : ℕ → Reading (Unit {0}) A) (u : Tree) (ks : Keys) (e : ℕ) (kz : Keys) → 3 ≤ o → ValueIs doc u o ks e kz
       → ask (typeAt doc o >>= by) ≡ ask (by (getD doc o 0))
   unfolding typeAt
   asked h o by u ks e kz b v = then _ _ tt (then _ _ tt (opening-is h o b) ∙ byte-is doc o o tt (value-inside u o ks e kz v))
@@ -97,7 +97,7 @@ module _ (doc : List ℕ) where
 
   -- ---- the length of a string, an array and an object, and the wrong kind
 
-  module _ (h : Opens doc) (o : ℕ) (b : 3 ≤ o) where
+  module _ (h : Headed doc) (o : ℕ) (b : 3 ≤ o) where
     string-length : (t : List ℕ) (ks : Keys) (e : ℕ) (kz : Keys) (v : ValueIs doc (str t) o ks e kz) → ask (wantedAt doc o aString) ≡ answers (numeral (v .1) (afterLength o (v .0)))
     unfolding wantedAt wantedBy
     string-length t ks e kz v = asked h o _ (str t) ks e kz b v ∙ rw (v .2 .form-is) (length-is doc o (v .0) (v .1) tt (v .3))

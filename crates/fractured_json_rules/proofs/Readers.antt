@@ -13,7 +13,7 @@ use Rattle.json.specs.Reading.{Reading, halt, done, answer, kept, keep, _>>=_, 
 use Rattle.json.proofs.Reading.{halt≢done, done-kept, passed, then, pass, fail, need-yes, assoc}
 use Rattle.fractured_json_rules.specs.ByteTables.{bytes, Len, tiny, after, KeyNumber, inByte, spelled}
 use Rattle.fractured_json_rules.specs.Meaning.{LengthIs, afterLength, Spelled, oneByte, twoBytes, threeBytes, KeyNumberIs}
-pub use Rattle.fractured_json_rules.specs.Meaning.{Opens}
+pub use Rattle.fractured_json_rules.specs.Meaning.{Headed}
 use Rattle.fractured_json_rules.specs.Verdict.{header, byteAt, payload, lengthAt, textAt, Numeral, numeral, afterSecond, afterFirst, keyNumberAt}
 
 -- ---- what is kept, read and replaced at the head of a chain
@@ -50,7 +50,7 @@ last-test true n p s e = (tt, done-kept e)
 last-test false n p s e = absurd (halt≢done e)
 
 module _ {S B : Type 0} (doc : List ℕ) where
-  pub header-step : (f : Unit {0} → Reading S B) (s : S) {b : B} {z : S} → (header doc >>= f) s ≡ done b z → Opens doc × (f tt s ≡ done b z)
+  pub header-step : (f : Unit {0} → Reading S B) (s : S) {b : B} {z : S} → (header doc >>= f) s ≡ done b z → Headed doc × (f tt s ≡ done b z)
   unfolding header
   header-step f s e =
       let s1 = passed _ _ _ _ s (along _ _ f s e) in
@@ -111,7 +111,7 @@ module _ {S B : Type 0} (doc : List ℕ) where
 -- ---- what stands there is answered, and what runs out refused
 
 module _ {S : Type 0} (doc : List ℕ) where
-  pub header-is : (s : S) → Opens doc → header doc s ≡ done tt s
+  pub header-is : (s : S) → Headed doc → header doc s ≡ done tt s
   unfolding header
   header-is s h =
       pass _ _ _ _ s (le→leb _ _ (h .long)) ∙ (pass _ _ _ _ s (le→leb _ _ (h .short)) ∙ (pass _ _ _ _ s (rw (h .magic0) tt)

@@ -18,7 +18,7 @@ use Rattle.json.proofs.Reading.{halt≢done, done-answer, done-kept, step, pass
 use Rattle.fractured_json_rules.specs.ByteTables.{Width, bytes, Form, fNull, fBool, fInt, fFloat, fTiny, fString, fObject, fArray, fReserved, formOf}
 use Rattle.fractured_json_rules.specs.ByteTables.{KeyForm, immediate, backReference, globalIndex, kReserved, keyFormOf}
 use Rattle.fractured_json_rules.specs.Meaning.{afterLength, intTree, tinyTree, NumberIs, asTiny, asInt, asFloat, noKey, Keys, keyText, KeyIs, asText}
-use Rattle.fractured_json_rules.specs.Meaning.{asBack, ValueIs, ValuesAre, MembersAre, Opens, Means}
+use Rattle.fractured_json_rules.specs.Meaning.{asBack, ValueIs, ValuesAre, MembersAre, Headed, Means}
 use Rattle.fractured_json_rules.specs.Verdict.{Numeral, numeral, textAt, inTurn, member, valueBy, value, keyBy, newKey, oldKey, checkKey, check, verdict}
 use Rattle.fractured_json_rules.proofs.Keys.{met-fresh}
 use Rattle.fractured_json_rules.proofs.Readers.{kept-is, keep-is, header-step, last-test, byte-step, payload-step, length-step, text-step, key-number-step}
@@ -183,8 +183,8 @@ module _ (room : ℕ) (doc : List ℕ) where
 
   -- ---- the document
 
-  found-means : Opens doc → (e : ℕ) (kz : Keys) → FoundValue doc deepest 3 [] e kz → e ≡ length doc → (t : Tree) × (m : Means doc t) × (m .keys ≡ kz)
-  found-means o e kz f past = (f .tree, record { opens = o; keys = kz; root = rw past at (f .here); nested = f .shallow }, refl)
+  found-means : Headed doc → (e : ℕ) (kz : Keys) → FoundValue doc deepest 3 [] e kz → e ≡ length doc → (t : Tree) × (m : Means doc t) × (m .keys ≡ kz)
+  found-means o e kz f past = (f .tree, record { headed = o; keys = kz; root = rw past at (f .here); nested = f .shallow }, refl)
 
   pub sound : (kz : Keys) → verdict room doc ≡ done tt kz → (t : Tree) × (m : Means doc t) × (m .keys ≡ kz)
   unfolding check

@@ -5,9 +5,9 @@ use Prim.Native.Nat.{ℕ, _+_, _*_, _/_, min}
 use mathlib.Core.List.{List, [], _∷_, _++_}
 use lib.ListN.{length, getD, drop}
 use Rattle.json.specs.Limits.{mostKeys}
-use Rattle.json.specs.Reading.{Outcome, halt, done, Asked, answers, refuses}
+use Rattle.json.specs.Reading.{Outcome, Asked}
 use Rattle.fractured_json_rules.specs.Meaning.{Key, Keys}
-use Rattle.fractured_json_rules.specs.Verdict.{verdict}
+use Rattle.fractured_json_rules.specs.Verdict.{verdict, keysOf, verdictOf}
 
 -- the room of a table: half its words rounded down, at most 4,096
 unfoldable pub roomOf : List ℕ → ℕ
@@ -33,8 +33,7 @@ pub record Checked : Type 0 where
   pub words : List ℕ
 
 abbrev pub checkedBy : List ℕ → Outcome Keys (Unit {0}) → Checked
-checkedBy words (halt number place ks) = record { verdict = refuses number place; count = length ks; words = stored ks words }
-checkedBy words (done u ks) = record { verdict = answers u; count = length ks; words = stored ks words }
+checkedBy words q = record { verdict = verdictOf q; count = length (keysOf q); words = stored (keysOf q) words }
 
 abbrev pub checked : List ℕ → List ℕ → Checked
 checked doc words = checkedBy words (verdict (roomOf words) doc)

@@ -128,7 +128,7 @@ abbrev mutual
 -- ---- the whole document: bytes 46 4A, config 01, one value, end
 
 -- a good length, and the three bytes before the value
-pub record Opens (doc : List ℕ) : Type 0 where
+pub record Headed (doc : List ℕ) : Type 0 where
   pub long : leastFractured ≤ length doc
   pub short : length doc ≤ longest
   pub magic0 : getD doc 0 0 ≡ 0x46
@@ -137,7 +137,7 @@ pub record Opens (doc : List ℕ) : Type 0 where
 
 -- The document keeps the rules of the format and means the tree t; `keys` are its immediate keys.
 pub record Means (doc : List ℕ) (t : Tree) : Type 0 where
-  pub opens : Opens doc
+  pub headed : Headed doc
   pub keys : Keys
   pub root : ValueIs doc t 3 [] (length doc) keys
   pub nested : depth t ≤ deepest

@@ -8,11 +8,10 @@ use Rattle.json.specs.Bytes.{number, part}
 use Rattle.json.specs.Choose.{choose}
 use Rattle.json.specs.Limits.{deepest}
 use Rattle.json.specs.Number.{floatTree}
-use Rattle.json.specs.Reading.{Outcome, halt, done}
 use Rattle.json.specs.Tree.{Tree, null, bool, str, arr, obj, Trees, none, more, Members, end, member}
 use Rattle.fractured_json_rules.specs.ByteTables.{bytes, Len, tiny, after, Form, fNull, fBool, fInt, fFloat, fTiny, fString, fObject, fArray, fReserved, formOf, KeyNumber, inByte, spelled, KeyForm, immediate, backReference, globalIndex, kReserved, keyFormOf}
 use Rattle.fractured_json_rules.specs.Meaning.{noKey, Keys, keyText, afterLength, intTree, tinyTree}
-use Rattle.fractured_json_rules.specs.Verdict.{Numeral, numeral, verdict}
+use Rattle.fractured_json_rules.specs.Verdict.{Numeral, numeral, verdict, keysOf}
 
 -- ---- ends
 
@@ -97,11 +96,6 @@ treeBy doc ks tree past o fReserved = null
 unfoldable pub treeAt : ℕ → List ℕ → Keys → ℕ → Tree
 treeAt zero doc ks o = treeBy doc ks (λ m. null) (λ m. m) o (formOf (getD doc o 0))
 treeAt (suc levels) doc ks o = treeBy doc ks (treeAt levels doc ks) (endAt levels doc) o (formOf (getD doc o 0))
-
--- the keys passed, however a reading ends
-abbrev pub keysOf : {A : Type 0} → Outcome Keys A → Keys
-keysOf (halt number place ks) = ks
-keysOf (done a ks) = ks
 
 -- the tree of a document whose check has room for so many keys
 unfoldable pub treeOf : ℕ → List ℕ → Tree

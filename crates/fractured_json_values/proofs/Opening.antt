@@ -252,9 +252,9 @@ module _ (doc : List ℕ) (at kind width : ℕ) (w : FloatWidth kind width) wher
     pub number-finite : b ≡ true → answers (leaf (at + 1 + width)) ≡ ask (openKind (length doc) at kind (number doc (at + 1) width) (at + 1 + width))
     number-finite t = scalar-passes (length doc) at kind _ _ k b (e ∙ finite-is) t
 
-    pub binary64-finite : b ≡ true → kind ≡ 7 → answers (leaf (at + 9)) ≡ ask (openKind (length doc) at kind (number doc (at + 1) width) (at + 1 + width))
+    pub binary64-finite : b ≡ true → kind ≡ 7 → answers (leaf (at + 1 + 8)) ≡ ask (openKind (length doc) at kind (number doc (at + 1) width) (at + 1 + width))
     unfolding FloatWidth
-    binary64-finite t f = let z : at + 9 ≡ at + 1 + width = let v = w .1 f in omega arith in rw z (number-finite t)
+    binary64-finite t f = let z : width ≡ 8 = w .1 f in rw (sym z) (number-finite t)
 
     pub number-infinite : b ≡ false → refuses 43 at ≡ ask (openKind (length doc) at kind (number doc (at + 1) width) (at + 1 + width))
     number-infinite t = scalar-refused (length doc) at kind _ _ k b (e ∙ finite-is) t

@@ -7,6 +7,7 @@ use borrow.Author.Needs.{needs}
 use lib.ListN.{length, take, drop, length-drop, drop-of-length-le}
 use lib.Seq.{take-all, take-nil}
 use Rattle.json.specs.Bytes.{part}
+use Rattle.json.specs.Limits.{mostKeys}
 use Rattle.fractured_json_rules.specs.KeyTable.{roomOf}
 
 -- ---- a part of the document
@@ -27,11 +28,11 @@ pub ruleset part-laws = (part-past, part-clipped, part-whole, needs)
 
 -- ---- room
 
-pub room-half : (words : List ℕ) → length words / 2 < 4_096 → length words / 2 ≡ roomOf words
+pub room-half : (words : List ℕ) → length words / 2 < mostKeys → length words / 2 ≡ roomOf words
 unfolding roomOf
 room-half words h = omega arith
 
-pub room-most : (words : List ℕ) → 4_096 ≤ length words / 2 → 4_096 ≡ roomOf words
+pub room-most : (words : List ℕ) → mostKeys ≤ length words / 2 → mostKeys ≡ roomOf words
 unfolding roomOf
 room-most words h = omega arith
 

@@ -14,7 +14,7 @@ const STARTS: [u8; 11] = [0, 1, 2, 3, 13, 16, 19, 22, 110, 158, 190];
 const LENGTHS: [u8; 11] = [1, 1, 1, 10, 3, 3, 3, 88, 48, 32, 64];
 
 // The payload widths of the numbers: int8 to uint64, each signed and unsigned, binary32 and binary64.
-const NUMBER_WIDTHS: [u8; 10] = [1, 1, 2, 2, 4, 4, 8, 8, 4, 8];
+pub(crate) const NUMBER_WIDTHS: [u8; 10] = [1, 1, 2, 2, 4, 4, 8, 8, 4, 8];
 
 // The widths of a length after its byte.
 const LENGTH_WIDTHS: [u8; 3] = [1, 2, 4];

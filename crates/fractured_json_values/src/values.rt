@@ -1,5 +1,6 @@
 // What stands at a type byte: its length or payload, and a value read up to a container's contents.
 use crate::types::Head;
+use crate::types::NUMBER_WIDTHS;
 use crate::types::head_of;
 use json::Refusal;
 ghost use mathlib.Core.Path.{_≡_};
@@ -138,15 +139,15 @@ fn length_at(doc: &[u8], at: usize, width: usize) -> usize
     word::integer(doc, at + 1, 4) as usize
 }
 
-// The number at a place, whose payload takes so many bytes. The end of a binary64, the most frequent number, does not wait for its width
-// to be looked up.
+// The number at a place, whose payload takes so many bytes. The width of a binary64, the most frequent number, is looked up at a constant
+// place, so that its end does not wait for its type byte.
 fn open_scalar(doc: &[u8], at: usize, kind: u8, width: usize) -> Open
     requires { ⌜ FloatWidth kind width × (kind < 8) × (width < length (now doc) - at) ⌝ }
     ensures { λ r. ⌜ toldOpen r ≡ ask (openKind (length (now (doc .entry))) at kind (number (now (doc .entry)) (at + 1) width) (at + 1 + width)) ⌝ }
 {
     if finite_at(doc, at, kind) {
         if kind == 7 {
-            return Open::Leaf(at + 9);
+            return Open::Leaf(at + 1 + NUMBER_WIDTHS[9] as usize);
         }
         return Open::Leaf(at + 1 + width);
     }

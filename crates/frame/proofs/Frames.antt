@@ -12,17 +12,16 @@ use lib.ListN.{length, getD, take, List·getD-eq-default}
 use lib.Seq.{length-take-le}
 use Rattle.json.specs.Choose.{choose}
 use Rattle.json.specs.Limits.{longestLine, benchKeys}
-use Rattle.json.specs.Reading.{Outcome, halt, done, told}
+use Rattle.json.specs.Reading.{told}
 use Rattle.json.specs.declared.Verdict.{Verdict}
 use Rattle.binary_json_rules.specs.Verdict as Binary
-use Rattle.fractured_json_rules.specs.Meaning.{Keys}
 use Rattle.fractured_json_rules.specs.Verdict as Fractured
-use Rattle.fractured_json_rules.specs.KeyTable.{roomOf, checkedBy, checked}
+use Rattle.fractured_json_rules.specs.KeyTable.{roomOf, checked}
 use Rattle.fractured_json_check.specs.Told.{toldChecked}
 use Rattle.fractured_json_check.specs.declared.answers.Checked.{Checked}
 use Rattle.frame.specs.Decoded.{Decoded}
-use Rattle.frame.specs.Frame.{isFractured, verdictOf, frameOf, bytesOf, answerOf}
-use Rattle.frame.specs.Frame as Frame
+use Rattle.frame_rules.specs.Frame.{isFractured, frameOf, bytesOf, answerOf}
+use Rattle.frame_rules.specs.Frame as Frame
 
 -- ---- the format
 
@@ -48,21 +47,16 @@ pub ruleset format-laws = (too-short, by-second, other-first, needs)
 
 -- ---- a frame
 
-verdict-kept : (words : List ℕ) (q : Outcome Keys (Unit {0})) → checkedBy words q .verdict ≡ verdictOf q
-verdict-kept words (halt number place keys) = refl
-verdict-kept words (done u keys) = refl
-
 room-is : (words : List ℕ) → 2 * benchKeys ≡ length words → roomOf words ≡ benchKeys
 unfolding roomOf
 room-is words l = rw (sym l)
 
 pub with-room : (doc words after : List ℕ) (c : Checked) → toldChecked c after ≡ checked doc words → 2 * benchKeys ≡ length words
-    → told (c .verdict) ≡ verdictOf (Fractured.verdict benchKeys doc)
-with-room doc words after c e l =
-    ap (λ k. k .verdict) e ∙ verdict-kept words (Fractured.verdict (roomOf words) doc) ∙ rw (room-is words l)
+    → told (c .verdict) ≡ Fractured.verdictOf (Fractured.verdict benchKeys doc)
+with-room doc words after c e l = ap (λ k. k .verdict) e ∙ rw (room-is words l)
 
 module _ (doc : List ℕ) (b : Bool) (f : b ≡ isFractured doc) (v : Verdict) where
-  pub as-fractured : b ≡ true → told v ≡ verdictOf (Fractured.verdict benchKeys doc) → Frame.fractured (told v) ≡ frameOf doc
+  pub as-fractured : b ≡ true → told v ≡ Fractured.verdictOf (Fractured.verdict benchKeys doc) → Frame.fractured (told v) ≡ frameOf doc
   unfolding frameOf choose
   as-fractured t e = rw (sym f, t, e)
 

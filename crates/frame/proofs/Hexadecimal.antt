@@ -13,7 +13,7 @@ use lib.ListN.{length, getD, take, drop, set, replicate, drop-of-length-le}
 use lib.Seq.{append-snoc, drop-cons, take-suc-set}
 use Rattle.json.specs.Choose.{choose}
 use Rattle.json.proofs.Table.{both, split, every, at}
-use Rattle.frame.specs.Frame.{nibble, before, bytesOf}
+use Rattle.frame_rules.specs.Frame.{nibble, before, bytesOf}
 
 -- ---- characters
 

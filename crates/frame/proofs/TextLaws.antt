@@ -16,8 +16,8 @@ use Rattle.json.specs.Choose.{choose}
 use Rattle.json.specs.Reading.{told}
 use Rattle.json.specs.declared.Refusal.{Refusal}
 use Rattle.json.specs.declared.Verdict.{Verdict}
-use Rattle.frame.specs.Frame as Frame
-use Rattle.frame.specs.Texts.{ascii, digits, decimal, verdictText, said, answerText, totalText}
+use Rattle.frame_rules.specs.Frame as Frame
+use Rattle.frame_rules.specs.Texts.{ascii, digits, decimal, verdictText, said, answerText, totalText}
 use Rattle.frame.specs.Told.{toldAnswer}
 use Rattle.frame.specs.declared.Answer.{Answer}
 use Rattle.frame.specs.Written.{Written}

@@ -1,6 +1,6 @@
 -- The answer of the code, as the definitions have it.
 use Rattle.json.specs.Reading.{told}
-use Rattle.frame.specs.Frame as Frame
+use Rattle.frame_rules.specs.Frame as Frame
 use Rattle.frame.specs.declared.Answer.{Answer}
 use Rattle.frame.specs.declared.Answer.the-variants.{Long, Hex, Binary, Fractured}
 

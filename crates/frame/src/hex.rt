@@ -2,7 +2,7 @@
 ghost use mathlib.Core.Path.{_≡_};
 ghost use Prim.Native.Nat.{_*_, _/_, _≤_, _<_};
 ghost use lib.ListN.{length};
-ghost use Rattle.frame.specs.Frame.{nibble};
+ghost use Rattle.frame_rules.specs.Frame.{nibble};
 ghost use Rattle.frame.specs.Decoded.{Decoded};
 
 // What each character stands for; 16 says that it is no hexadecimal character.

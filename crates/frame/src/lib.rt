@@ -12,8 +12,8 @@ ghost use Rattle.json.specs.Limits.{benchKeys};
 ghost use Rattle.json.specs.Reading.{told};
 ghost use Prim.Native.Nat.{_*_};
 ghost use lib.ListN.{length};
-ghost use Rattle.fractured_json_rules.specs.Verdict.{verdict};
-ghost use Rattle.frame.specs.Frame.{isFractured, verdictOf, frameOf, answerOf};
+ghost use Rattle.fractured_json_rules.specs.Verdict.{verdict, verdictOf};
+ghost use Rattle.frame_rules.specs.Frame.{isFractured, frameOf, answerOf};
 ghost use Rattle.frame.specs.Told.{toldAnswer};
 
 // The most bytes of a frame, and the words of the key table.

@@ -6,7 +6,7 @@ ghost use Prim.Native.Nat.{_+_, _≤_};
 ghost use lib.ListN.{length};
 ghost use mathlib.Core.List.{_++_};
 ghost use Rattle.json.specs.Reading.{told};
-ghost use Rattle.frame.specs.Texts.{decimal, verdictText, said, answerText, totalText};
+ghost use Rattle.frame_rules.specs.Texts.{decimal, verdictText, said, answerText, totalText};
 ghost use Rattle.frame.specs.Told.{toldAnswer};
 ghost use Rattle.frame.specs.Written.{Written};
 

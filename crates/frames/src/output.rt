@@ -26,7 +26,7 @@ pub(crate) fn flush(out: &[u8], o: Output) -> Output
     }
 }
 
-// Puts a text behind what waits.
+// Puts a text after what waits.
 fn append(out: &mut [u8], o: Output, text: &[u8]) -> Output
     requires { ⌜ o .waiting + length (now text) ≤ length (now out) ⌝ }
 {
@@ -37,7 +37,7 @@ fn append(out: &mut [u8], o: Output, text: &[u8]) -> Output
     }
 }
 
-// Puts a text behind what waits, or first writes that, if there is no room. A text that is longer than the block is left out.
+// Puts a text after what waits, or first writes that, if there is no room. A text that is longer than the block is left out.
 pub(crate) fn say(out: &mut [u8], o: Output, text: &[u8]) -> Output {
     if out.len() < text.len() {
         return o;

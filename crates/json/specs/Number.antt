@@ -12,7 +12,7 @@ scaled n = n * 2 ^ 1074
 
 -- ---- floating point
 
--- A format has p digits behind the leading one and w bits of exponent; its smallest positive value, times 2 ^ 1074, is
+-- A format has p digits after the leading one and w bits of exponent; its smallest positive value, times 2 ^ 1074, is
 -- 2 ^ low.
 pub record Float : Type 0 where
   pub p : ℕ

@@ -146,7 +146,7 @@ fn check(out: &mut [u8], n: usize, doc: &[u8], keys: &mut [u32]) -> usize {
 
 // ---- the lent key table
 
-// What the options of a row lend: the length of the table, the count of keys, and the word of the row behind the options.
+// What the options of a row lend: the length of the table, the count of keys, and the word of the row after the options.
 struct Lent {
     words: usize,
     count: usize,
@@ -165,7 +165,7 @@ fn option(row: &[u8], k: usize, o: usize) -> &[u8] {
     cut(row, 0, 0)
 }
 
-// The word behind word `k`, if that is an option and has a value.
+// The word after word `k`, if that is an option and has a value.
 fn past(k: usize, option: &[u8]) -> usize {
     if option.len() == 0 {
         return k;

@@ -91,7 +91,7 @@ fn digit(c: u8) -> usize {
     16
 }
 
-// `x` with a decimal digit behind it.
+// `x` with a decimal digit after it.
 fn with_digit(x: usize, c: u8) -> Said {
     let d = digit(c);
     if 9 < d {

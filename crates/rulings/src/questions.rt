@@ -95,8 +95,8 @@ fn ask(q: usize, words: usize, cursor: Said, index: Said, key: Said) -> Asked {
     }
 }
 
-// The words behind word `k` of a row that ends with the mark ` = `.
-fn words_behind(row: &[u8], k: usize) -> usize {
+// The words after word `k` of a row that ends with the mark ` = `.
+fn words_after(row: &[u8], k: usize) -> usize {
     let n = count(row, b' ');
     if n < 2 {
         return n;
@@ -113,7 +113,7 @@ pub(crate) fn read(row: &[u8], k: usize, key: &mut [u8]) -> Asked {
     let last = part(row, b' ', up(up(k)));
     ask(
         named(part(row, b' ', k)),
-        words_behind(row, k),
+        words_after(row, k),
         number(cursor),
         number(last),
         bytes(last, key),

@@ -10,7 +10,7 @@ use crate::spell::put_text;
 use libc::STDOUT_FILENO;
 use text::same;
 
-// How many bytes of the mark ` = ` are met, once `c` is read behind `k` of them.
+// How many bytes of the mark ` = ` are met, once `c` is read after `k` of them.
 fn step(k: usize, c: u8) -> usize {
     if c == b' ' {
         if k == 2 {
@@ -26,8 +26,8 @@ fn step(k: usize, c: u8) -> usize {
     0
 }
 
-// Where the given answer starts, behind the first mark; 0 where there is none.
-fn behind_mark(line: &[u8]) -> usize {
+// Where the given answer starts, after the first mark; 0 where there is none.
+fn after_mark(line: &[u8]) -> usize {
     let mut k = 0;
     let mut i = 0;
     while i < line.len() {
@@ -68,7 +68,7 @@ fn say_last(remark: &[u8], t: &[u8]) {
 
 // Writes a row with its answer, which are put together in `out`, and answers whether the given one agrees.
 pub(crate) fn run(out: &mut [u8], line: &[u8]) -> bool {
-    let at = behind_mark(line);
+    let at = after_mark(line);
     let row = cut(line, 0, at);
     let given = cut(line, at, line.len());
     let from = put_text(out, 0, row);

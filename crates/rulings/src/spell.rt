@@ -1,4 +1,4 @@
-// How answers are spelled: bytes are put into a block behind the first `n`, and each function answers how many there are then.
+// How answers are spelled: bytes are put into a block after the first `n`, and each function answers how many there are then.
 use crate::answers::Answer;
 use crate::parse::part;
 

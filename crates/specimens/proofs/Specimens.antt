@@ -4,7 +4,7 @@ use mathlib.Core.Path.{_≡_, refl}
 use Rattle.json.specs.Bytes.{number}
 use Rattle.json.specs.Choose.{choose}
 use Rattle.json.specs.Number.{finite, magnitude, floatTree, wholeTree, signedTree}
-use Rattle.json.specs.Reading.{follow, _>>=_, need, ask, answers}
+use Rattle.json.specs.Reading.{follow, _>>=_, need, ask}
 use Rattle.json.specs.Texts.{byNumbers, compareTexts}
 use Rattle.binary_json_rules.specs.Areas as B
 use Rattle.binary_json_rules.specs.Verdict as BV
@@ -22,6 +22,6 @@ pub specimens-hold : map (λ s. saysOf (s .format) (s .doc)) specimens ≡ map (
 unfolding follow _>>=_ need choose number finite magnitude floatTree wholeTree signedTree byNumbers compareTexts B.index B.count B.slot B.text B.content B.numbers B.kindOf B.typeOf BV.header BV.ascends BV.slotRules BV.slots BV.slotNamed BV.numberNamed BV.keyEntries BV.entryBy BV.entry BV.entries BV.containerBy BV.container BV.scalar BV.rootBy BV.check BT.entryTreeBy BT.entryTree BT.entryTrees BT.memberTrees BT.containerTreeBy BT.containerTree BT.treeOf F.formOf F.keyFormOf FM.tinyTree FV.header FV.byteAt FV.payload FV.lengthAt FV.textAt FV.afterSecond FV.afterFirst FV.keyNumberAt FV.inTurn FV.member FV.valueBy FV.value FV.keyBy FV.met FV.newKey FV.oldKey FV.checkKey FV.check FT.spelledIn FT.keyEnd FT.steps FT.endBy FT.endAt FT.keyTextAt FT.valueTrees FT.memberTrees FT.treeBy FT.treeAt FT.treeOf
 specimens-hold = refl
 
-pub lookups-hold : (ask (BL.quickLookup aTrue 4 keyA) ≡ answers lookupA) × (ask (BL.quickLookup aTrue 4 keyB) ≡ answers lookupB)
-unfolding follow _>>=_ need choose number byNumbers compareTexts B.index B.count B.slot B.text B.numbers BV.header BQ.opening BQ.treeWord BQ.body BQ.object BQ.slotRead BH.turn BH.halveIf BH.halveFrom BH.halve BL.afterKeys BL.afterStrings BL.quickLookup
+pub lookups-hold : (BL.lookupOf (ask (BL.quickLookup aTrue 4 keyA)) ≡ lookupA) × (BL.lookupOf (ask (BL.quickLookup aTrue 4 keyB)) ≡ lookupB)
+unfolding follow _>>=_ need choose number byNumbers compareTexts B.index B.count B.slot B.text B.numbers BV.header BQ.opening BQ.treeWord BQ.body BQ.object BQ.slotRead BH.turn BH.halveIf BH.halveFrom BH.halve BL.afterKeys BL.afterStrings BL.quickLookup BL.lookupOf
 lookups-hold = (refl, refl)

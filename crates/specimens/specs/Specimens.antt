@@ -6,11 +6,11 @@ use mathlib.Core.List.{List, [], _∷_}
 use Rattle.json.specs.Bytes.{hex}
 use Rattle.json.specs.Limits.{mostKeys}
 use Rattle.json.specs.Number.{scaled}
-use Rattle.json.specs.Reading.{Outcome, halt, done}
+use Rattle.json.specs.Reading.{Outcome, halt, done, answers}
 use Rattle.json.specs.Tree.{Tree, null, bool, num, arr, obj, none, more, end, member}
 use Rattle.binary_json_rules.specs.Verdict as Binary
 use Rattle.binary_json_rules.specs.TreeOf as BinaryTree
-use Rattle.binary_json_rules.specs.Lookup.{entry, absent, Counted, counted}
+use Rattle.binary_json_rules.specs.Lookup.{entry, absent, Lookup, lookup}
 use Rattle.fractured_json_rules.specs.Verdict as Fractured
 use Rattle.fractured_json_rules.specs.Meaning.{Keys}
 use Rattle.fractured_json_rules.specs.TreeOf as FracturedTree
@@ -27,7 +27,7 @@ abbrev pub ofBinary : List ℕ → Outcome (Unit {0}) (Unit {0}) → Says
 ofBinary doc (halt number place u) = refused number place
 ofBinary doc (done a u) = means (BinaryTree.treeOf doc)
 
-abbrev pub ofFractured : ℕ → List ℕ → Outcome (Keys) (Unit {0}) → Says
+abbrev pub ofFractured : ℕ → List ℕ → Outcome Keys (Unit {0}) → Says
 ofFractured room doc (halt number place ks) = refused number place
 ofFractured room doc (done a ks) = means (FracturedTree.treeOf room doc)
 
@@ -90,8 +90,8 @@ specimens =
 -- ---- the lookups in {"a":true}, whose object stands at 4
 
 -- "a" is the Entry at 12, counts 1 and 1; "b" is absent, 1 and 0
-abbrev pub lookupA : Counted
-lookupA = counted (entry 12) 1 1
+abbrev pub lookupA : Lookup
+lookupA = lookup (answers (entry 12)) 1 1
 
-abbrev pub lookupB : Counted
-lookupB = counted absent 1 0
+abbrev pub lookupB : Lookup
+lookupB = lookup (answers absent) 1 0

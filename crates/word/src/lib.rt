@@ -49,7 +49,7 @@ fn eight_at(s: &[u8], at: usize) -> u64
     more(s, at, 7, more(s, at, 6, six))
 }
 
-// The number that the n bytes at a place make, for every n.
+// The number that the n bytes at a place make, for every n up to eight.
 pub fn integer(s: &[u8], at: usize, n: usize) -> u64
     requires { ⌜ (n ≤ 8) × (at + n ≤ length (now s)) ⌝ }
     ensures { λ r. ⌜ r ≡ number (now (s .entry)) at n ⌝ }

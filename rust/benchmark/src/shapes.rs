@@ -64,7 +64,7 @@ fn scenario() -> Tree {
     ])
 }
 
-/// The i-th key of at most 4,096: two bytes, or behind 24 bytes that all keys share. Keys ascend with i.
+/// The i-th key of at most 4,096: two bytes, or after 24 bytes that all keys share. Keys ascend with i.
 pub fn key(i: usize, prefixed: bool) -> Vec<u8> {
     let digits = [b'0' + (i / 64) as u8, b'0' + (i % 64) as u8];
     let prefix: &[u8] = if prefixed {

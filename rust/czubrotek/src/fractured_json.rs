@@ -273,7 +273,7 @@ impl<'a> Document<'a> {
         ValueOffset(3)
     }
 
-    /// Where a value ends: the offset behind its last byte.
+    /// Where a value ends: the offset after its last byte.
     pub fn end(&self, at: ValueOffset) -> Result<u64, Refusal> {
         let [end] = ask(|out| sys::fj_end(self.bytes, self.words, self.count, at.0, out))?;
         Ok(end)

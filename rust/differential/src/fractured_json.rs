@@ -13,14 +13,14 @@ struct Writer<'a> {
 }
 
 impl Writer<'_> {
-    /// A length: in the type byte if it is a tiny one, or spelled behind it.
+    /// A length: in the type byte if it is a tiny one, or spelled after it.
     fn length(&mut self, form: &Form, n: usize) {
         let spelled = n >= form.tiny || self.random.once_in(4);
         let width = spelled.then(|| self.random.below(3));
         form.put_length(&mut self.doc, n, width);
     }
 
-    /// A key byte with its number in it, or behind it, by chance in a longer spelling than it needs.
+    /// A key byte with its number in it, or after it, by chance in a longer spelling than it needs.
     fn key_number(&mut self, form: &Form, n: usize) {
         let spelled = n >= form.tiny || self.random.once_in(4);
         let least = least_v_uint16(n);

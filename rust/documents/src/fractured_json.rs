@@ -10,7 +10,7 @@ pub struct Form {
     first: u8,
     /// How many numbers have a byte of their own.
     pub tiny: usize,
-    /// The byte behind which the number is spelled.
+    /// The byte after which the number is spelled.
     spelled: u8,
 }
 
@@ -33,7 +33,7 @@ pub const BACK_REFERENCE: Form = form(0x57, 84, 0x01);
 pub const GLOBAL_INDEX: Form = form(0xAB, 84, 0x02);
 
 impl Form {
-    /// A length: in the shortest spelling, or behind the type byte in at least 1, 2 or 4 bytes, for `width` 0, 1 or 2.
+    /// A length: in the shortest spelling, or after the type byte in at least 1, 2 or 4 bytes, for `width` 0, 1 or 2.
     pub fn put_length(&self, doc: &mut Vec<u8>, n: usize, width: Option<usize>) {
         match width.unwrap_or(0) {
             _ if width.is_none() && n < self.tiny => doc.push(self.first + n as u8),
@@ -49,7 +49,7 @@ impl Form {
         }
     }
 
-    /// The number of a key: in the shortest spelling, or as a v_uint16 of so many bytes behind the key byte.
+    /// The number of a key: in the shortest spelling, or as a v_uint16 of so many bytes after the key byte.
     pub fn put_key_number(&self, doc: &mut Vec<u8>, n: usize, bytes: Option<usize>) {
         if bytes.is_none() && n < self.tiny {
             return doc.push(self.first + n as u8);

@@ -121,7 +121,7 @@ pub fn member(doc: &[u8], keys: &[u32], count: u64, at: u64, j: u64) -> Answer<(
 }
 
 /// Place of the value of the first member with this key in the object at `at`, or absent. The values
-/// between two keys are walked; nothing is read behind the last key.
+/// between two keys are walked; nothing is read after the last key.
 pub fn first_member(
     doc: &[u8],
     keys: &[u32],

@@ -87,7 +87,7 @@ impl<'a> Document<'a> {
             .get(start as usize..start as usize + len as usize)
     }
 
-    /// The v_uint16 behind a key byte, and where it ends: seven bits a byte, lowest first, the third byte at most 3.
+    /// The v_uint16 after a key byte, and where it ends: seven bits a byte, lowest first, the third byte at most 3.
     fn v_uint16(&self, key: usize) -> Result<(usize, usize), Refusal> {
         let mut number = 0;
         let mut shift = 0;

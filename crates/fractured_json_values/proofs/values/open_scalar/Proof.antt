@@ -11,14 +11,23 @@ finite-at-requires c κs = search scalar-laws
 add-t7 : tie.Need-add-t7
 add-t7 c = search scalar-laws
 
+array-read-t11 : tie.Need-array-read-t11
+array-read-t11 c = search scalar-laws
+
+cast-t12 : tie.Need-cast-t12
+cast-t12 c = search scalar-laws
+
+add-t13 : tie.Need-add-t13
+add-t13 c = search scalar-laws
+
 returns : tie.Need-returns
 returns c = search scalar-laws
 
-add-t8 : tie.Need-add-t8
-add-t8 c = search scalar-laws
+add-t14 : tie.Need-add-t14
+add-t14 c = search scalar-laws
 
-add-t9 : tie.Need-add-t9
-add-t9 c = search scalar-laws
+add-t15 : tie.Need-add-t15
+add-t15 c = search scalar-laws
 
 returns-2 : tie.Need-returns-2
 returns-2 c = search scalar-laws
@@ -28,4 +37,15 @@ returns-3 c = search scalar-laws
 
 pub open-scalar-spec : {M : Type 1} → statement M
 open-scalar-spec =
-    tie.close (tie.spec finite-at-requires add-t7 returns add-t8 add-t9 returns-2 returns-3)
+    tie.close
+    (tie.spec
+    finite-at-requires
+    add-t7
+    array-read-t11
+    cast-t12
+    add-t13
+    returns
+    add-t14
+    add-t15
+    returns-2
+    returns-3)

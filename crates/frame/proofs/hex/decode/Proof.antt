@@ -3,7 +3,7 @@ use Rattle.frame.proofs.Hexadecimal.{decode-laws}
 use mathlib.Core.Path.{_≡_}
 use Prim.Native.Nat.{_*_, _/_, _-_, _≤_}
 use lib.ListN.{length, take, drop}
-use Rattle.frame.specs.Frame.{before, bytesOf}
+use Rattle.frame_rules.specs.Frame.{before, bytesOf}
 use Rattle.frame.proofs.hex.decode.Statement.{statement}
 use Rattle.frame.proofs.hex.decode.Tie as tie
 

@@ -7,9 +7,8 @@ use lib.Dec.{ltb, eqb}
 use lib.ListN.{length, getD}
 use Rattle.json.specs.Choose.{choose}
 use Rattle.json.specs.Limits.{longestLine, benchKeys}
-use Rattle.json.specs.Reading.{Outcome, halt, done, Asked, answers, refuses}
+use Rattle.json.specs.Reading.{Asked}
 use Rattle.binary_json_rules.specs.Verdict as Binary
-use Rattle.fractured_json_rules.specs.Meaning.{Keys}
 use Rattle.fractured_json_rules.specs.Verdict as Fractured
 
 -- ---- hexadecimal of either case, two characters a byte
@@ -52,12 +51,8 @@ unfoldable pub isFractured : List ℕ → Bool
 isFractured doc = choose (eqb (getD doc 0 0) 0x46) (eqb (getD doc 1 0) 0x4A) false
 
 -- "FJ gets a table of 4,096 keys"; what is kept of the check is its verdict
-abbrev pub verdictOf : Outcome Keys (Unit {0}) → Asked (Unit {0})
-verdictOf (halt number place keys) = refuses number place
-verdictOf (done u keys) = answers u
-
 unfoldable pub frameOf : List ℕ → Answer
-frameOf doc = choose (isFractured doc) (fractured (verdictOf (Fractured.verdict benchKeys doc))) (binary (Binary.verdict doc))
+frameOf doc = choose (isFractured doc) (fractured (Fractured.verdictOf (Fractured.verdict benchKeys doc))) (binary (Binary.verdict doc))
 
 abbrev pub answerIf : Option (List ℕ) → Answer
 answerIf none = hex

@@ -6,7 +6,7 @@ use mathlib.Core.List.{List, [], _∷_, _++_}
 use lib.Dec.{ltb}
 use Rattle.json.specs.Choose.{choose}
 use Rattle.json.specs.Reading.{Asked, halt, done}
-use Rattle.frame.specs.Frame.{Answer, long, hex, binary, fractured}
+use Rattle.frame_rules.specs.Frame.{Answer, long, hex, binary, fractured}
 
 -- the codes of a text's characters
 abbrev pub ascii : String → List ℕ

@@ -1,8 +1,8 @@
 use borrow.Author.Needs.{needs}
 use Prim.Native.Nat.{_-_}
 use lib.ListN.{length}
-use Rattle.rulings.proofs.row.behind_mark.Statement.{statement}
-use Rattle.rulings.proofs.row.behind_mark.Tie as tie
+use Rattle.rulings.proofs.row.after_mark.Statement.{statement}
+use Rattle.rulings.proofs.row.after_mark.Tie as tie
 
 abbrev Inv-loop : tie.InvT-loop
 Inv-loop line k₀ i₀ k i = Unit
@@ -34,8 +34,8 @@ loop-again c = search needs
 returns-2 : tie.Need-returns-2 Inv-loop μ-loop
 returns-2 c = search needs
 
-pub behind-mark-spec : {M : Type 1} → statement M
-behind-mark-spec =
+pub after-mark-spec : {M : Type 1} → statement M
+after-mark-spec =
     tie.close
     (tie.spec
     Inv-loop

@@ -1,5 +1,5 @@
 -- The bench's output by the definitions: document 01's worked example, and what the rulings say of lines.
-use mathlib.Core.List.{List, [], _∷_, map}
+use mathlib.Core.List.{[], _∷_, map}
 use mathlib.Core.Path.{_≡_, refl}
 use Rattle.json.specs.Bytes.{number}
 use Rattle.json.specs.Choose.{choose}
@@ -10,9 +10,9 @@ use Rattle.binary_json_rules.specs.Areas as B
 use Rattle.binary_json_rules.specs.Verdict as BV
 use Rattle.fractured_json_rules.specs.ByteTables as F
 use Rattle.fractured_json_rules.specs.Verdict as FV
-use Rattle.frame.specs.Frame.{nibble, bytesOf, isFractured, frameOf, answerOf}
-use Rattle.frame.specs.Texts.{ascii, digits, decimal, verdictText, said, answerText, totalText}
-use Rattle.frame.specs.Bench.{linesFrom, answersFrom, benchText}
+use Rattle.frame_rules.specs.Frame.{nibble, bytesOf, isFractured, frameOf, answerOf}
+use Rattle.frame_rules.specs.Texts.{ascii, digits, decimal, verdictText, said, answerText, totalText}
+use Rattle.frame_rules.specs.Bench.{linesFrom, answersFrom, benchText}
 
 pub bench-says :
     map (λ input. benchText (ascii input))

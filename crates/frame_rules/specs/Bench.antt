@@ -5,8 +5,8 @@ use mathlib.Core.List.{List, [], _∷_, _++_}
 use lib.Dec.{eqb}
 use Rattle.json.specs.Choose.{choose}
 use Rattle.json.specs.Reading.{Asked, halt, done}
-use Rattle.frame.specs.Frame.{Answer, long, hex, binary, fractured, answerOf}
-use Rattle.frame.specs.Texts.{ascii, answerText, totalText}
+use Rattle.frame_rules.specs.Frame.{Answer, long, hex, binary, fractured, answerOf}
+use Rattle.frame_rules.specs.Texts.{ascii, answerText, totalText}
 
 -- a last line without LF counts if it has a character
 abbrev pub lastLine : List ℕ → List (List ℕ)
