@@ -35,5 +35,5 @@ pub record Checked : Type 0 where
 abbrev pub checkedBy : List ℕ → Outcome Keys (Unit {0}) → Checked
 checkedBy words q = record { verdict = verdictOf q; count = length (keysOf q); words = stored (keysOf q) words }
 
-abbrev pub checked : List ℕ → List ℕ → Checked
-checked doc words = checkedBy words (verdict (roomOf words) doc)
+abbrev pub checked : List ℕ → List ℕ → List ℕ → Checked
+checked doc list words = checkedBy words (verdict (roomOf words) doc list)

@@ -8,8 +8,9 @@ use lib.ListN.{getD}
 use Rattle.json.specs.Limits.{deepest}
 use Rattle.json.specs.Tree.{Tree}
 use Rattle.fractured_json_rules.specs.ByteTables.{Len, fObject, fArray, formOf}
-use Rattle.fractured_json_rules.specs.Meaning.{afterLength, Keys, ValueIs}
-use Rattle.fractured_json_rules.specs.TreeOf.{lengthIn, keyEnd, steps, endAt}
+use Rattle.fractured_json_rules.specs.Meaning.{afterLength, Names, Keys, ValueIs}
+use Rattle.fractured_json_rules.specs.KeyList.{steps}
+use Rattle.fractured_json_rules.specs.TreeOf.{lengthIn, keyEnd, endAt}
 
 -- where element i of the array at o stands, and the key byte of member j of the object at o
 abbrev pub elementPlace : List ℕ → ℕ → Len → ℕ → ℕ
@@ -30,11 +31,11 @@ pub record FirstOf (met ks : Keys) : Type 0 where
   pub rest : Keys
   pub same : ks ≡ met ++ rest
 
--- The value at o stands for the tree u and ends at `past`. The document's immediate keys are ks: `before` are those met before
--- the value, `met` those met up to its end, a first part of ks.
-pub record StandsFor (doc : List ℕ) (ks : Keys) (o : ℕ) (u : Tree) : Type 0 where
+-- The value at o stands for the tree u and ends at `past`. The key list's names are `names`, the document's immediate keys ks:
+-- `before` are those met before the value, `met` those met up to its end, a first part of ks.
+pub record StandsFor (doc : List ℕ) (names : Names) (ks : Keys) (o : ℕ) (u : Tree) : Type 0 where
   pub before : Keys
   pub past : ℕ
   pub met : Keys
-  pub value : ValueIs doc u o before past met
+  pub value : ValueIs doc names u o before past met
   pub first : FirstOf met ks

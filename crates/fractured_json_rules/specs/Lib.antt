@@ -1,5 +1,6 @@
 pub mod ByteTables
 pub mod Meaning
+pub mod KeyList
 pub mod Verdict
 pub mod KeyTable
 pub mod TreeOf

@@ -1,7 +1,8 @@
--- Which Fractured JSON documents keep the rules of the format, and which tree each of them means: document 01, section "FJ,
--- laid out". This says what a good document is, by recursion over its tree; it says nothing of the order in which a check
--- reads it, nor of numbers of refusal. The immediate keys met so far are threaded through, since a back reference goes by
--- their numbers. How many there may be is the key table's matter, and stands beside the meaning.
+-- Which Fractured JSON documents keep the rules of the format, with a key list beside them, and which tree each of them means:
+-- document 01, section "FJ, laid out", and document 02, request L1. This says what a good document and a good key list are, by
+-- recursion over the tree and over the names; it says nothing of the order in which a check reads them, nor of numbers of
+-- refusal. The immediate keys met so far are threaded through, since a back reference goes by their numbers. How many there
+-- may be is the key table's matter, and stands beside the meaning.
 use Prim.Native.Nat.{ℕ, _+_, _-_, _*_, _≤_, _<_}
 use mathlib.Core.Bool.{Bool, true, false}
 use mathlib.Core.List.{List, [], _∷_, _++_}
@@ -14,7 +15,7 @@ use Rattle.json.specs.Choose.{choose}
 use Rattle.json.specs.Limits.{leastFractured, longest, deepest}
 use Rattle.json.specs.Number.{Float, finite, floatTree, wholeTree, signedTree, scaled}
 use Rattle.json.specs.Tree.{Tree, null, bool, num, str, arr, obj, Trees, none, more, Members, end, member, size, sizem, depth}
-use Rattle.fractured_json_rules.specs.ByteTables.{Width, bytes, Len, tiny, after, Form, fNull, fBool, fInt, fFloat, fTiny, fString, fObject, fArray, formOf, KeyNumber, inByte, spelled, KeyForm, immediate, backReference, keyFormOf}
+use Rattle.fractured_json_rules.specs.ByteTables.{Width, bytes, Len, tiny, after, Form, fNull, fBool, fInt, fFloat, fTiny, fString, fObject, fArray, formOf, KeyNumber, inByte, spelled, KeyForm, immediate, backReference, globalIndex, keyFormOf}
 
 -- ---- bytes and lengths
 
@@ -40,6 +41,28 @@ afterLength o (after w) = o + 1 + bytes w
 pub record TextIs (doc : List ℕ) (o n : ℕ) (t : List ℕ) : Type 0 where
   pub inside : o + n ≤ length doc
   pub same : t ≡ part doc o n
+
+-- ---- the key list: a config byte, a 16-bit count, then 16-bit lengths with texts
+
+abbrev pub Names : Type 0
+Names = List (List ℕ)
+
+-- the names stand from o to the end of the list, each after its length
+abbrev pub NamesFrom : List ℕ → ℕ → Names → Type 0
+NamesFrom list o [] = o ≡ length list
+NamesFrom list o (t ∷ ts) = (o + 2 ≤ length list) × TextIs list (o + 2) (number list o 2) t × NamesFrom list (o + 2 + number list o 2) ts
+
+-- no two names are equal
+unfoldable pub Distinct : Names → Type 0
+Distinct names = (i j : ℕ) → i < j → j < length names → getD names i [] ≢ getD names j []
+
+-- The key list keeps the rules and means these names.
+pub record Lists (list : List ℕ) (names : Names) : Type 0 where
+  pub counted : 3 ≤ length list
+  pub config : getD list 0 0 ≡ 0
+  pub count : length names ≡ number list 1 2
+  pub laid-out : NamesFrom list 3 names
+  pub distinct : Distinct names
 
 -- ---- numbers
 
@@ -94,36 +117,38 @@ unfoldable pub Fresh : List ℕ → List ℕ → Keys → Type 0
 Fresh doc t ks = (j : ℕ) → j < length ks → keyText doc (getD ks j noKey) ≢ t
 
 -- A key with the text t stands from o to e. The immediate keys met before it are ks, those met up to e are kz: an
--- immediate key is one not met before, and takes the next number; a back reference gives the number of one met before. No
--- global index is found yet.
-pub data KeyIs (doc t : List ℕ) (o : ℕ) (ks : Keys) (e : ℕ) (kz : Keys) : Type 0 where
+-- immediate key is one not met before, and takes the next number; a back reference gives the number of one met before; a
+-- global index that of a name.
+pub data KeyIs (doc : List ℕ) (names : Names) (t : List ℕ) (o : ℕ) (ks : Keys) (e : ℕ) (kz : Keys) : Type 0 where
   asText : (x : KeyNumber) (n b : ℕ) → KeyStarts doc o (immediate x) → KeyNumberIs doc o x n b → TextIs doc b n t → Fresh doc t ks → e ≡ b + n
-      → kz ≡ ks ++ (record { start = b; len = n } ∷ []) → KeyIs doc t o ks e kz
+      → kz ≡ ks ++ (record { start = b; len = n } ∷ []) → KeyIs doc names t o ks e kz
   asBack : (x : KeyNumber) (j : ℕ) → KeyStarts doc o (backReference x) → KeyNumberIs doc o x j e → j < length ks → t ≡ keyText doc (getD ks j noKey)
-      → kz ≡ ks → KeyIs doc t o ks e kz
+      → kz ≡ ks → KeyIs doc names t o ks e kz
+  asGlobal : (x : KeyNumber) (j : ℕ) → KeyStarts doc o (globalIndex x) → KeyNumberIs doc o x j e → j < length names → t ≡ getD names j []
+      → kz ≡ ks → KeyIs doc names t o ks e kz
 
 -- ---- values
 
 -- The bytes from o to e stand for a tree; ks are the immediate keys met before, kz those met up to e. A key is met before
 -- its value is read. A key may occur twice in one object.
 abbrev mutual
-  pub ValueIs : List ℕ → Tree → ℕ → Keys → ℕ → Keys → Type 0
-  ValueIs doc null o ks e kz = Starts doc o fNull × (e ≡ o + 1) × (kz ≡ ks)
-  ValueIs doc (bool b) o ks e kz = Starts doc o (fBool b) × (e ≡ o + 1) × (kz ≡ ks)
-  ValueIs doc (num s m) o ks e kz = NumberIs doc (num s m) o e × (kz ≡ ks)
-  ValueIs doc (str t) o ks e kz =
+  pub ValueIs : List ℕ → Names → Tree → ℕ → Keys → ℕ → Keys → Type 0
+  ValueIs doc names null o ks e kz = Starts doc o fNull × (e ≡ o + 1) × (kz ≡ ks)
+  ValueIs doc names (bool b) o ks e kz = Starts doc o (fBool b) × (e ≡ o + 1) × (kz ≡ ks)
+  ValueIs doc names (num s m) o ks e kz = NumberIs doc (num s m) o e × (kz ≡ ks)
+  ValueIs doc names (str t) o ks e kz =
       (x : Len) × (n : ℕ) × Starts doc o (fString x) × LengthIs doc o x n × TextIs doc (afterLength o x) n t × (e ≡ afterLength o x + n) × (kz ≡ ks)
-  ValueIs doc (arr ts) o ks e kz = (x : Len) × Starts doc o (fArray x) × LengthIs doc o x (size ts) × ValuesAre doc ts (afterLength o x) ks e kz
-  ValueIs doc (obj ms) o ks e kz = (x : Len) × Starts doc o (fObject x) × LengthIs doc o x (sizem ms) × MembersAre doc ms (afterLength o x) ks e kz
+  ValueIs doc names (arr ts) o ks e kz = (x : Len) × Starts doc o (fArray x) × LengthIs doc o x (size ts) × ValuesAre doc names ts (afterLength o x) ks e kz
+  ValueIs doc names (obj ms) o ks e kz = (x : Len) × Starts doc o (fObject x) × LengthIs doc o x (sizem ms) × MembersAre doc names ms (afterLength o x) ks e kz
 
-  pub ValuesAre : List ℕ → Trees → ℕ → Keys → ℕ → Keys → Type 0
-  ValuesAre doc none o ks e kz = (e ≡ o) × (kz ≡ ks)
-  ValuesAre doc (more t ts) o ks e kz = (m : ℕ) × (km : Keys) × ValueIs doc t o ks m km × ValuesAre doc ts m km e kz
+  pub ValuesAre : List ℕ → Names → Trees → ℕ → Keys → ℕ → Keys → Type 0
+  ValuesAre doc names none o ks e kz = (e ≡ o) × (kz ≡ ks)
+  ValuesAre doc names (more t ts) o ks e kz = (m : ℕ) × (km : Keys) × ValueIs doc names t o ks m km × ValuesAre doc names ts m km e kz
 
-  pub MembersAre : List ℕ → Members → ℕ → Keys → ℕ → Keys → Type 0
-  MembersAre doc end o ks e kz = (e ≡ o) × (kz ≡ ks)
-  MembersAre doc (member k t ms) o ks e kz =
-      (v : ℕ) × (kv : Keys) × (m : ℕ) × (km : Keys) × KeyIs doc k o ks v kv × ValueIs doc t v kv m km × MembersAre doc ms m km e kz
+  pub MembersAre : List ℕ → Names → Members → ℕ → Keys → ℕ → Keys → Type 0
+  MembersAre doc names end o ks e kz = (e ≡ o) × (kz ≡ ks)
+  MembersAre doc names (member k t ms) o ks e kz =
+      (v : ℕ) × (kv : Keys) × (m : ℕ) × (km : Keys) × KeyIs doc names k o ks v kv × ValueIs doc names t v kv m km × MembersAre doc names ms m km e kz
 
 -- ---- the whole document: bytes 46 4A, config 01, one value, end
 
@@ -135,9 +160,11 @@ pub record Headed (doc : List ℕ) : Type 0 where
   pub magic1 : getD doc 1 0 ≡ 0x4A
   pub config : getD doc 2 0 ≡ 0x01
 
--- The document keeps the rules of the format and means the tree t; `keys` are its immediate keys.
-pub record Means (doc : List ℕ) (t : Tree) : Type 0 where
+-- The document and the key list keep the rules and mean the tree t; `keys` are the document's immediate keys.
+pub record Means (doc list : List ℕ) (t : Tree) : Type 0 where
+  pub names : Names
+  pub listed : Lists list names
   pub headed : Headed doc
   pub keys : Keys
-  pub root : ValueIs doc t 3 [] (length doc) keys
+  pub root : ValueIs doc names t 3 [] (length doc) keys
   pub nested : depth t ≤ deepest

@@ -1,72 +1,93 @@
--- The questions put to a Fractured JSON document, fixed for all bytes, cursors, key tables and counts: document 01, section
--- "Questions". Each applies 31 to 34, then 20 for a cursor under 3. Each reads only what it needs, in this order: type byte
+-- The questions put to a Fractured JSON document with a key list, fixed for all bytes, cursors, key tables and counts: document
+-- 01, section "Questions", and document 02, request L1. Each applies 51 to 54, 31 to 34, then 20 for a cursor under 3. Each reads only what it needs, in this order: type byte
 -- (35, 36), 21 for the wrong kind, length or payload (35, 43; kind reads no payload or text), 22 for an index past the end,
 -- then the values before the one sought, walked whole, and every key up to it; for the end, all of them. The value sought
 -- is not read. 20, 21 and 22 stand at the cursor.
 use Prim.Native.Nat.{ℕ, zero, suc, _+_, _-_, _*_, _^_}
 use mathlib.Core.Bool.{Bool, true, false}
-use mathlib.Core.List.{List}
+use mathlib.Core.List.{List, []}
 use lib.Dec.{ltb, leb}
 use lib.ListN.{length}
 use Rattle.json.specs.Bytes.{part}
 use Rattle.json.specs.Choose.{choose}
 use Rattle.json.specs.Limits.{deepest}
 use Rattle.json.specs.Number.{finite}
-use Rattle.json.specs.Reading.{Reading, answer, refuse, ask, _>>=_, _>>_, need}
+use Rattle.json.specs.Reading.{halt, done, Reading, answer, refuse, Asked, ask, _>>=_, _>>_, need}
 use Rattle.json.specs.Span.{Span, spanned}
 use Rattle.json.specs.Texts.{compareTexts, isEqual}
 use Rattle.fractured_json_rules.specs.ByteTables.{bytes, Form, fNull, fBool, fInt, fFloat, fTiny, fString, fObject, fArray, fReserved, formOf, keyFormOf}
-use Rattle.fractured_json_rules.specs.Meaning.{keyText}
+use Rattle.fractured_json_rules.specs.KeyList.{countIn, keyList, nameOf}
 use Rattle.fractured_json_rules.specs.Verdict.{header, byteAt, payload, lengthAt, textAt, Numeral, inTurn, member, value, keyBy}
 use Rattle.fractured_json_rules.specs.KeyTable.{roomOf, keyOf}
 
 -- ---- before every question, asked at the cursor c
 
-unfoldable pub opening : {S : Type 0} → List ℕ → ℕ → Reading S (Unit {0})
-opening doc c = do
+unfoldable pub opening : {S : Type 0} → List ℕ → List ℕ → ℕ → Reading S (Unit {0})
+opening doc list c = do
+  keyList list
   header doc
   need (leb 3 c) 20 c
 
--- and before every question but the end: the type byte
-unfoldable pub typeAt : {S : Type 0} → List ℕ → ℕ → Reading S ℕ
-typeAt doc c = do
-  opening doc c
+-- and before every question but the end and the key: the type byte
+unfoldable pub typeAt : {S : Type 0} → List ℕ → List ℕ → ℕ → Reading S ℕ
+typeAt doc list c = do
+  opening doc list c
   byteAt doc c c
 
--- ---- a key as a question reads it: back references go by the key table and count handed in
+-- ---- a key as a question reads it: back references go by the key table and count handed in, global indices by the key list
 
--- a key's text, and where the key ends
+-- who lent the bytes in which a key's text stands
+pub data Lender : Type 0 where
+  theDocument theList : Lender
+
+-- where a key's text stands and how long it is, and where the key ends
 pub record KeyRead : Type 0 where
-  pub bytes : List ℕ
+  pub lender : Lender
+  pub place : ℕ
+  pub len : ℕ
   pub past : ℕ
+
+-- the text itself
+abbrev pub lent : List ℕ → List ℕ → Lender → List ℕ
+lent doc list theDocument = doc
+lent doc list theList = list
+
+abbrev pub textIn : List ℕ → List ℕ → KeyRead → List ℕ
+textIn doc list k = part (lent doc list (k .lender)) (k .place) (k .len)
 
 unfoldable pub textKey : {S : Type 0} → List ℕ → ℕ → Numeral → Reading S KeyRead
 textKey doc o n = do
   end ← textAt doc o n
-  answer (record { bytes = part doc (n .past) (n .is); past = end })
+  answer (record { lender = theDocument; place = n .past; len = n .is; past = end })
 
--- 38 unless the index is under the count, the count not over the room, and the pair inside the document
+-- 38 unless the number is under the count, the count not over the room, and the pair inside the document
 unfoldable pub backKey : {S : Type 0} → List ℕ → List ℕ → ℕ → ℕ → Numeral → Reading S KeyRead
 backKey doc words count o n = do
   need (ltb (n .is) count) 38 o
   need (leb count (roomOf words)) 38 o
   need (leb (keyOf words (n .is) .start + keyOf words (n .is) .len) (length doc)) 38 o
-  answer (record { bytes = keyText doc (keyOf words (n .is)); past = n .past })
+  answer (record { lender = theDocument; place = keyOf words (n .is) .start; len = keyOf words (n .is) .len; past = n .past })
 
-unfoldable pub readKey : {S : Type 0} → List ℕ → List ℕ → ℕ → ℕ → Reading S KeyRead
-readKey doc words count o = do
+-- 38 unless the index is under the list's count
+unfoldable pub nameKey : {S : Type 0} → List ℕ → ℕ → Numeral → Reading S KeyRead
+nameKey list o n = do
+  need (ltb (n .is) (countIn list)) 38 o
+  answer (record { lender = theList; place = nameOf list (n .is) .start; len = nameOf list (n .is) .len; past = n .past })
+
+unfoldable pub readKey : {S : Type 0} → List ℕ → List ℕ → List ℕ → ℕ → ℕ → Reading S KeyRead
+readKey doc list words count o = do
   b ← byteAt doc o o
-  keyBy doc o (textKey doc o) (backKey doc words count o) (keyFormOf b)
+  keyBy doc o (textKey doc o) (backKey doc words count o) (nameKey list o) (keyFormOf b)
 
 -- the key's end alone, for the walk
-unfoldable pub passKey : {S : Type 0} → List ℕ → List ℕ → ℕ → ℕ → Reading S ℕ
-passKey doc words count o = do
-  k ← readKey doc words count o
+unfoldable pub passKey : {S : Type 0} → List ℕ → List ℕ → List ℕ → ℕ → ℕ → Reading S ℕ
+passKey doc list words count o = do
+  k ← readKey doc list words count o
   answer (k .past)
 
 -- the walk over a value, with so many levels left
-abbrev pub walk : {S : Type 0} → ℕ → List ℕ → List ℕ → ℕ → ℕ → Reading S ℕ
-walk levels doc words count o = value (passKey doc words count) levels doc o
+abbrev pub walk : {S : Type 0} → ℕ → List ℕ → List ℕ → List ℕ → ℕ → ℕ → Reading S ℕ
+walk levels doc list words count o = value (passKey doc list words count) levels doc o
 
 -- nesting counts from the cursor, whose container is 1: the levels left for the values in it
 abbrev pub inner : ℕ
@@ -74,10 +95,10 @@ inner = deepest - 1
 
 -- ---- its end
 
-unfoldable pub endOf : {S : Type 0} → List ℕ → List ℕ → ℕ → ℕ → Reading S ℕ
-endOf doc words count c = do
-  opening doc c
-  walk deepest doc words count c
+unfoldable pub endOf : {S : Type 0} → List ℕ → List ℕ → List ℕ → ℕ → ℕ → Reading S ℕ
+endOf doc list words count c = do
+  opening doc list c
+  walk deepest doc list words count c
 
 -- ---- its kind, with the length of a string or container
 
@@ -103,9 +124,9 @@ kindBy doc c (fArray x) = do
   answer (isArray (n .is))
 kindBy doc c fReserved = refuse 36 c
 
-unfoldable pub kind : {S : Type 0} → List ℕ → ℕ → Reading S Kind
-kind doc c = do
-  b ← typeAt doc c
+unfoldable pub kind : {S : Type 0} → List ℕ → List ℕ → ℕ → Reading S Kind
+kind doc list c = do
+  b ← typeAt doc list c
   kindBy doc c (formOf b)
 
 -- ---- its number: type byte and 64 bits
@@ -138,9 +159,9 @@ numberBy doc c b (fObject x) = refuse 21 c
 numberBy doc c b (fArray x) = refuse 21 c
 numberBy doc c b fReserved = refuse 36 c
 
-unfoldable pub numberAt : {S : Type 0} → List ℕ → ℕ → Reading S Bits
-numberAt doc c = do
-  b ← typeAt doc c
+unfoldable pub numberAt : {S : Type 0} → List ℕ → List ℕ → ℕ → Reading S Bits
+numberAt doc list c = do
+  b ← typeAt doc list c
   numberBy doc c b (formOf b)
 
 -- ---- the length of a string, an object or an array
@@ -166,52 +187,52 @@ wantedBy doc c (fArray x) anObject = refuse 21 c
 wantedBy doc c (fArray x) anArray = lengthAt doc c x
 wantedBy doc c fReserved want = refuse 36 c
 
-unfoldable pub wantedAt : {S : Type 0} → List ℕ → ℕ → Wanted → Reading S Numeral
-wantedAt doc c want = do
-  b ← typeAt doc c
+unfoldable pub wantedAt : {S : Type 0} → List ℕ → List ℕ → ℕ → Wanted → Reading S Numeral
+wantedAt doc list c want = do
+  b ← typeAt doc list c
   wantedBy doc c (formOf b) want
 
 -- ---- its string, both ways
 
-unfoldable pub stringAt : {S : Type 0} → List ℕ → ℕ → Reading S Span
-stringAt doc c = do
-  n ← wantedAt doc c aString
+unfoldable pub stringAt : {S : Type 0} → List ℕ → List ℕ → ℕ → Reading S Span
+stringAt doc list c = do
+  n ← wantedAt doc list c aString
   _ ← textAt doc c n
   answer (record { place = n .past; len = n .is })
 
 -- the second way: the text itself
-abbrev pub stringBytes : List ℕ → ℕ → List ℕ
-stringBytes doc c = spanned doc (ask (stringAt doc c))
+abbrev pub stringBytes : List ℕ → List ℕ → ℕ → List ℕ
+stringBytes doc list c = spanned doc (ask (stringAt doc list c))
 
 -- ---- element i, member j and the first member by key
 
 -- where element i stands
-unfoldable pub elementFrom : {S : Type 0} → List ℕ → List ℕ → ℕ → ℕ → ℕ → ℕ → ℕ → Reading S ℕ
-elementFrom doc words count c i n at = do
+unfoldable pub elementFrom : {S : Type 0} → List ℕ → List ℕ → List ℕ → ℕ → ℕ → ℕ → ℕ → ℕ → Reading S ℕ
+elementFrom doc list words count c i n at = do
   need (ltb i n) 22 c
-  inTurn (walk inner doc words count) i at
+  inTurn (walk inner doc list words count) i at
 
-unfoldable pub elementAt : {S : Type 0} → List ℕ → List ℕ → ℕ → ℕ → ℕ → Reading S ℕ
-elementAt doc words count c i = do
-  n ← wantedAt doc c anArray
-  elementFrom doc words count c i (n .is) (n .past)
+unfoldable pub elementAt : {S : Type 0} → List ℕ → List ℕ → List ℕ → ℕ → ℕ → ℕ → Reading S ℕ
+elementAt doc list words count c i = do
+  n ← wantedAt doc list c anArray
+  elementFrom doc list words count c i (n .is) (n .past)
 
 -- where the key byte and the value of member j stand
 pub record MemberAt : Type 0 where
   pub key : ℕ
   pub value : ℕ
 
-unfoldable pub memberFrom : {S : Type 0} → List ℕ → List ℕ → ℕ → ℕ → ℕ → ℕ → ℕ → Reading S MemberAt
-memberFrom doc words count c j n at = do
+unfoldable pub memberFrom : {S : Type 0} → List ℕ → List ℕ → List ℕ → ℕ → ℕ → ℕ → ℕ → ℕ → Reading S MemberAt
+memberFrom doc list words count c j n at = do
   need (ltb j n) 22 c
-  o ← inTurn (member (passKey doc words count) (walk inner doc words count)) j at
-  v ← passKey doc words count o
+  o ← inTurn (member (passKey doc list words count) (walk inner doc list words count)) j at
+  v ← passKey doc list words count o
   answer (record { key = o; value = v })
 
-unfoldable pub memberAt : {S : Type 0} → List ℕ → List ℕ → ℕ → ℕ → ℕ → Reading S MemberAt
-memberAt doc words count c j = do
-  n ← wantedAt doc c anObject
-  memberFrom doc words count c j (n .is) (n .past)
+unfoldable pub memberAt : {S : Type 0} → List ℕ → List ℕ → List ℕ → ℕ → ℕ → ℕ → Reading S MemberAt
+memberAt doc list words count c j = do
+  n ← wantedAt doc list c anObject
+  memberFrom doc list words count c j (n .is) (n .past)
 
 -- where the value of the first member with the key x stands, or absent
 pub data Found : Type 0 where
@@ -219,19 +240,34 @@ pub data Found : Type 0 where
   absent : Found
 
 -- from the member at o on, with so many after it; after the last key nothing is read
-unfoldable pub findFrom : {S : Type 0} → List ℕ → List ℕ → ℕ → List ℕ → ℕ → ℕ → Reading S Found
-findFrom doc words count x zero o = do
-  k ← readKey doc words count o
-  choose (isEqual (compareTexts (k .bytes) x)) (answer (valueAt (k .past))) (answer absent)
-findFrom doc words count x (suc later) o = do
-  k ← readKey doc words count o
-  choose (isEqual (compareTexts (k .bytes) x)) (answer (valueAt (k .past))) (walk inner doc words count (k .past) >>= λ next. findFrom doc words count x later next)
+unfoldable pub findFrom : {S : Type 0} → List ℕ → List ℕ → List ℕ → ℕ → List ℕ → ℕ → ℕ → Reading S Found
+findFrom doc list words count x zero o = do
+  k ← readKey doc list words count o
+  choose (isEqual (compareTexts (textIn doc list k) x)) (answer (valueAt (k .past))) (answer absent)
+findFrom doc list words count x (suc later) o = do
+  k ← readKey doc list words count o
+  choose (isEqual (compareTexts (textIn doc list k) x)) (answer (valueAt (k .past))) (walk inner doc list words count (k .past) >>= λ next. findFrom doc list words count x later next)
 
-unfoldable pub findIn : {S : Type 0} → List ℕ → List ℕ → ℕ → List ℕ → ℕ → ℕ → Reading S Found
-findIn doc words count x zero at = answer absent
-findIn doc words count x (suc later) at = findFrom doc words count x later at
+unfoldable pub findIn : {S : Type 0} → List ℕ → List ℕ → List ℕ → ℕ → List ℕ → ℕ → ℕ → Reading S Found
+findIn doc list words count x zero at = answer absent
+findIn doc list words count x (suc later) at = findFrom doc list words count x later at
 
-unfoldable pub firstMember : {S : Type 0} → List ℕ → List ℕ → ℕ → ℕ → List ℕ → Reading S Found
-firstMember doc words count c x = do
-  n ← wantedAt doc c anObject
-  findIn doc words count x (n .is) (n .past)
+unfoldable pub firstMember : {S : Type 0} → List ℕ → List ℕ → List ℕ → ℕ → ℕ → List ℕ → Reading S Found
+firstMember doc list words count c x = do
+  n ← wantedAt doc list c anObject
+  findIn doc list words count x (n .is) (n .past)
+
+-- ---- a key at its key byte, both ways: who lent its text, where that stands, how long it is, and where the key ends
+
+unfoldable pub keyAt : {S : Type 0} → List ℕ → List ℕ → List ℕ → ℕ → ℕ → Reading S KeyRead
+keyAt doc list words count c = do
+  opening doc list c
+  readKey doc list words count c
+
+-- the second way: the text itself, a part of the document or of the key list; empty at a refusal
+abbrev pub textBy : List ℕ → List ℕ → Asked KeyRead → List ℕ
+textBy doc list (done k s) = textIn doc list k
+textBy doc list (halt number place s) = []
+
+abbrev pub keyBytes : List ℕ → List ℕ → List ℕ → ℕ → ℕ → List ℕ
+keyBytes doc list words count c = textBy doc list (ask (keyAt doc list words count c))

@@ -1,5 +1,5 @@
--- Where each value of a Fractured JSON document ends, by its bytes alone, and the tree of a document, computed. Both are
--- meant for accepted documents; of any other they say nothing.
+-- Where each value of a Fractured JSON document ends, by its bytes alone, and the tree of a document with a key list, computed.
+-- Both are meant for accepted documents; of any other they say nothing.
 use Prim.Native.Nat.{ℕ, zero, suc, _+_, _-_, _*_}
 use mathlib.Core.List.{List, []}
 use lib.Dec.{ltb}
@@ -11,6 +11,7 @@ use Rattle.json.specs.Number.{floatTree}
 use Rattle.json.specs.Tree.{Tree, null, bool, str, arr, obj, Trees, none, more, Members, end, member}
 use Rattle.fractured_json_rules.specs.ByteTables.{bytes, Len, tiny, after, Form, fNull, fBool, fInt, fFloat, fTiny, fString, fObject, fArray, fReserved, formOf, KeyNumber, inByte, spelled, KeyForm, immediate, backReference, globalIndex, kReserved, keyFormOf}
 use Rattle.fractured_json_rules.specs.Meaning.{noKey, Keys, keyText, afterLength, intTree, tinyTree}
+use Rattle.fractured_json_rules.specs.KeyList.{steps, nameOf}
 use Rattle.fractured_json_rules.specs.Verdict.{Numeral, numeral, verdict, keysOf}
 
 -- ---- ends
@@ -41,11 +42,6 @@ keyEndBy doc o kReserved = o
 unfoldable pub keyEnd : List ℕ → ℕ → ℕ
 keyEnd doc o = keyEndBy doc o (keyFormOf (getD doc o 0))
 
--- n steps from o
-unfoldable pub steps : (ℕ → ℕ) → ℕ → ℕ → ℕ
-steps f zero o = o
-steps f (suc n) o = steps f n (f o)
-
 unfoldable pub endBy : List ℕ → (ℕ → ℕ) → ℕ → Form → ℕ
 endBy doc inner o fNull = o + 1
 endBy doc inner o (fBool b) = o + 1
@@ -62,41 +58,41 @@ unfoldable pub endAt : ℕ → List ℕ → ℕ → ℕ
 endAt zero doc o = endBy doc (λ m. m) o (formOf (getD doc o 0))
 endAt (suc levels) doc o = endBy doc (endAt levels doc) o (formOf (getD doc o 0))
 
--- ---- the tree; ks are all the immediate keys of the document
+-- ---- the tree, with a key list; ks are all the immediate keys of the document
 
-abbrev pub keyTextBy : List ℕ → Keys → ℕ → KeyForm → List ℕ
-keyTextBy doc ks o (immediate x) = part doc (keyNumberIn doc o x .past) (keyNumberIn doc o x .is)
-keyTextBy doc ks o (backReference x) = keyText doc (getD ks (keyNumberIn doc o x .is) noKey)
-keyTextBy doc ks o (globalIndex x) = []
-keyTextBy doc ks o kReserved = []
+abbrev pub keyTextBy : List ℕ → List ℕ → Keys → ℕ → KeyForm → List ℕ
+keyTextBy doc list ks o (immediate x) = part doc (keyNumberIn doc o x .past) (keyNumberIn doc o x .is)
+keyTextBy doc list ks o (backReference x) = keyText doc (getD ks (keyNumberIn doc o x .is) noKey)
+keyTextBy doc list ks o (globalIndex x) = keyText list (nameOf list (keyNumberIn doc o x .is))
+keyTextBy doc list ks o kReserved = []
 
-unfoldable pub keyTextAt : List ℕ → Keys → ℕ → List ℕ
-keyTextAt doc ks o = keyTextBy doc ks o (keyFormOf (getD doc o 0))
+unfoldable pub keyTextAt : List ℕ → List ℕ → Keys → ℕ → List ℕ
+keyTextAt doc list ks o = keyTextBy doc list ks o (keyFormOf (getD doc o 0))
 
 -- n values from o on, and n members; `tree` and `past` are of the value at an offset
 unfoldable pub valueTrees : (ℕ → Tree) → (ℕ → ℕ) → ℕ → ℕ → Trees
 valueTrees tree past zero o = none
 valueTrees tree past (suc n) o = more (tree o) (valueTrees tree past n (past o))
 
-unfoldable pub memberTrees : List ℕ → Keys → (ℕ → Tree) → (ℕ → ℕ) → ℕ → ℕ → Members
-memberTrees doc ks tree past zero o = end
-memberTrees doc ks tree past (suc n) o = member (keyTextAt doc ks o) (tree (keyEnd doc o)) (memberTrees doc ks tree past n (past (keyEnd doc o)))
+unfoldable pub memberTrees : List ℕ → List ℕ → Keys → (ℕ → Tree) → (ℕ → ℕ) → ℕ → ℕ → Members
+memberTrees doc list ks tree past zero o = end
+memberTrees doc list ks tree past (suc n) o = member (keyTextAt doc list ks o) (tree (keyEnd doc o)) (memberTrees doc list ks tree past n (past (keyEnd doc o)))
 
-unfoldable pub treeBy : List ℕ → Keys → (ℕ → Tree) → (ℕ → ℕ) → ℕ → Form → Tree
-treeBy doc ks tree past o fNull = null
-treeBy doc ks tree past o (fBool b) = bool b
-treeBy doc ks tree past o (fInt s w) = intTree s w (number doc (o + 1) (bytes w))
-treeBy doc ks tree past o (fFloat f w) = floatTree f (number doc (o + 1) (bytes w))
-treeBy doc ks tree past o (fTiny b) = tinyTree b
-treeBy doc ks tree past o (fString x) = str (part doc (afterLength o x) (lengthIn doc o x))
-treeBy doc ks tree past o (fObject x) = obj (memberTrees doc ks tree past (lengthIn doc o x) (afterLength o x))
-treeBy doc ks tree past o (fArray x) = arr (valueTrees tree past (lengthIn doc o x) (afterLength o x))
-treeBy doc ks tree past o fReserved = null
+unfoldable pub treeBy : List ℕ → List ℕ → Keys → (ℕ → Tree) → (ℕ → ℕ) → ℕ → Form → Tree
+treeBy doc list ks tree past o fNull = null
+treeBy doc list ks tree past o (fBool b) = bool b
+treeBy doc list ks tree past o (fInt s w) = intTree s w (number doc (o + 1) (bytes w))
+treeBy doc list ks tree past o (fFloat f w) = floatTree f (number doc (o + 1) (bytes w))
+treeBy doc list ks tree past o (fTiny b) = tinyTree b
+treeBy doc list ks tree past o (fString x) = str (part doc (afterLength o x) (lengthIn doc o x))
+treeBy doc list ks tree past o (fObject x) = obj (memberTrees doc list ks tree past (lengthIn doc o x) (afterLength o x))
+treeBy doc list ks tree past o (fArray x) = arr (valueTrees tree past (lengthIn doc o x) (afterLength o x))
+treeBy doc list ks tree past o fReserved = null
 
-unfoldable pub treeAt : ℕ → List ℕ → Keys → ℕ → Tree
-treeAt zero doc ks o = treeBy doc ks (λ m. null) (λ m. m) o (formOf (getD doc o 0))
-treeAt (suc levels) doc ks o = treeBy doc ks (treeAt levels doc ks) (endAt levels doc) o (formOf (getD doc o 0))
+unfoldable pub treeAt : ℕ → List ℕ → List ℕ → Keys → ℕ → Tree
+treeAt zero doc list ks o = treeBy doc list ks (λ m. null) (λ m. m) o (formOf (getD doc o 0))
+treeAt (suc levels) doc list ks o = treeBy doc list ks (treeAt levels doc list ks) (endAt levels doc) o (formOf (getD doc o 0))
 
--- the tree of a document whose check has room for so many keys
-unfoldable pub treeOf : ℕ → List ℕ → Tree
-treeOf room doc = treeAt deepest doc (keysOf (verdict room doc)) 3
+-- the tree of a document and a key list whose check has room for so many keys
+unfoldable pub treeOf : ℕ → List ℕ → List ℕ → Tree
+treeOf room doc list = treeAt deepest doc list (keysOf (verdict room doc list)) 3

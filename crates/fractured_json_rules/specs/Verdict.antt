@@ -1,5 +1,5 @@
--- The verdict on a Fractured JSON document: document 01, section "Numbers of refusal", second table, in the order that
--- stands below it: 31 to 34, then reading order. At a value: 35 for the type byte, 36, 35 for length or payload, 43, 41,
+-- The verdict on a Fractured JSON document with a key list: the list's own refusals first (KeyList.antt), then document 01,
+-- section "Numbers of refusal", second table, in the order that stands below it: 31 to 34, then reading order. At a value: 35 for the type byte, 36, 35 for length or payload, 43, 41,
 -- contents. At a key: 35, 36, v_uint16 byte by byte, text 35, 39, 40, or 38. Each `need` or `refuse` is one test of a rule,
 -- with its number and place. The walk over a value is one definition for the check and for the questions: how a key is read is
 -- its parameter. The check keeps the immediate keys passed, and has them at a refusal too.
@@ -9,13 +9,12 @@ use mathlib.Core.List.{List, [], _∷_, _++_}
 use lib.Dec.{ltb, leb, eqb}
 use lib.ListN.{length, getD}
 use Rattle.json.specs.Bytes.{number, part}
-use Rattle.json.specs.Choose.{choose}
 use Rattle.json.specs.Limits.{leastFractured, longest, deepest}
 use Rattle.json.specs.Number.{finite}
 use Rattle.json.specs.Reading.{Outcome, halt, done, Reading, answer, refuse, kept, keep, _>>=_, _>>_, need, Asked, answers, refuses}
-use Rattle.json.specs.Texts.{compareTexts, isEqual}
 use Rattle.fractured_json_rules.specs.ByteTables.{bytes, Len, tiny, after, Form, fNull, fBool, fInt, fFloat, fTiny, fString, fObject, fArray, fReserved, formOf, KeyNumber, inByte, spelled, KeyForm, immediate, backReference, globalIndex, kReserved, keyFormOf}
-use Rattle.fractured_json_rules.specs.Meaning.{Keys, keyText}
+use Rattle.fractured_json_rules.specs.Meaning.{Keys}
+use Rattle.fractured_json_rules.specs.KeyList.{met, countIn, keyList}
 
 -- ---- 31 to 34
 
@@ -125,22 +124,17 @@ value key (suc levels) doc o = do
   b ← byteAt doc o o
   valueBy doc o (λ n. inTurn (value key levels doc) (n .is) (n .past)) (λ n. inTurn (member key (value key levels doc)) (n .is) (n .past)) (formOf b)
 
--- ---- 36 and 38: a key by its form
+-- ---- 36: a key by its form
 
--- `byLength` goes on with the length of an immediate key's text, `byIndex` with the index of a back reference; no global index
--- is found yet
-unfoldable pub keyBy : {S A : Type 0} → List ℕ → ℕ → (Numeral → Reading S A) → (Numeral → Reading S A) → KeyForm → Reading S A
-keyBy doc o byLength byIndex (immediate x) = keyNumberAt doc o x >>= byLength
-keyBy doc o byLength byIndex (backReference x) = keyNumberAt doc o x >>= byIndex
-keyBy doc o byLength byIndex (globalIndex x) = keyNumberAt doc o x >>= λ _. refuse 38 o
-keyBy doc o byLength byIndex kReserved = refuse 36 o
+-- `byLength` goes on with the length of an immediate key's text, `byNumber` with the number of a back reference, `byIndex` with
+-- a global index
+unfoldable pub keyBy : {S A : Type 0} → List ℕ → ℕ → (Numeral → Reading S A) → (Numeral → Reading S A) → (Numeral → Reading S A) → KeyForm → Reading S A
+keyBy doc o byLength byNumber byIndex (immediate x) = keyNumberAt doc o x >>= byLength
+keyBy doc o byLength byNumber byIndex (backReference x) = keyNumberAt doc o x >>= byNumber
+keyBy doc o byLength byNumber byIndex (globalIndex x) = keyNumberAt doc o x >>= byIndex
+keyBy doc o byLength byNumber byIndex kReserved = refuse 36 o
 
 -- ---- 38, 39 and 40: a key as the check reads it, with room for so many keys
-
--- t is the text of one of the keys
-unfoldable pub met : List ℕ → List ℕ → Keys → Bool
-met doc t [] = false
-met doc t (k ∷ ks) = choose (isEqual (compareTexts (keyText doc k) t)) true (met doc t ks)
 
 -- an immediate key at o, whose text is n .is bytes from n .past on; passed, it has its number before its value is read
 unfoldable pub newKey : ℕ → List ℕ → ℕ → Numeral → Reading Keys ℕ
@@ -158,22 +152,29 @@ oldKey o n = do
   need (ltb (n .is) (length ks)) 38 o
   answer (n .past)
 
-unfoldable pub checkKey : ℕ → List ℕ → ℕ → Reading Keys ℕ
-checkKey room doc o = do
+-- a global index, with a list of so many names
+unfoldable pub listedKey : ℕ → ℕ → Numeral → Reading Keys ℕ
+listedKey names o n = do
+  need (ltb (n .is) names) 38 o
+  answer (n .past)
+
+unfoldable pub checkKey : ℕ → List ℕ → ℕ → ℕ → Reading Keys ℕ
+checkKey room doc names o = do
   b ← byteAt doc o o
-  keyBy doc o (newKey room doc o) (oldKey o) (keyFormOf b)
+  keyBy doc o (newKey room doc o) (oldKey o) (listedKey names o) (keyFormOf b)
 
 -- ---- the whole check
 
-unfoldable pub check : ℕ → List ℕ → Reading Keys (Unit {0})
-check room doc = do
+unfoldable pub check : ℕ → List ℕ → List ℕ → Reading Keys (Unit {0})
+check room doc list = do
+  keyList list
   header doc
-  end ← value (checkKey room doc) deepest doc 3
+  end ← value (checkKey room doc (countIn list)) deepest doc 3
   need (eqb end (length doc)) 42 end
 
 -- the verdict, with the immediate keys passed before the end or the refusal
-abbrev pub verdict : ℕ → List ℕ → Outcome Keys (Unit {0})
-verdict room doc = check room doc []
+abbrev pub verdict : ℕ → List ℕ → List ℕ → Outcome Keys (Unit {0})
+verdict room doc list = check room doc list []
 
 -- the keys passed, and the verdict without them, however the reading ends
 abbrev pub keysOf : {A : Type 0} → Outcome Keys A → Keys

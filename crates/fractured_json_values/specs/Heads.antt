@@ -3,7 +3,7 @@ use Prim.Native.Nat.{ℕ, zero, suc, _-_}
 use mathlib.Core.Bool.{true, false}
 use lib.Dec.{eqb}
 use Rattle.json.specs.Choose.{choose}
-use Rattle.json.specs.Reading.{Reading, refuse}
+use Rattle.json.specs.Reading.{Reading}
 use Rattle.fractured_json_rules.specs.ByteTables.{bytes, Width, one, two, four, eight, Len, tiny, after, Form, fNull, fBool, fInt, fFloat, fTiny, fString, fObject, fArray, fReserved, KeyNumber, inByte, spelled, KeyForm, immediate, backReference, globalIndex, kReserved}
 use Rattle.fractured_json_rules.specs.Verdict.{Numeral}
 use Rattle.fractured_json_values.specs.declared.types.Head.{Head}
@@ -58,6 +58,7 @@ abbrev pub keyNumberBy : ℕ → ℕ → KeyNumber
 keyNumberBy zero number = inByte number
 keyNumberBy (suc s) number = spelled
 
--- once that has been read: `byLength` goes on with an immediate key, `byIndex` with a back reference
-unfoldable pub numberedBy : {S A : Type 0} → ℕ → (Numeral → Reading S A) → (Numeral → Reading S A) → ℕ → Numeral → Reading S A
-numberedBy o byLength byIndex kind n = choose (eqb kind 0) (byLength n) (choose (eqb kind 1) (byIndex n) (refuse 38 o))
+-- once that has been read: `byLength` goes on with an immediate key, `byNumber` with a back reference, `byIndex` with a global
+-- index
+unfoldable pub numberedBy : {S A : Type 0} → (Numeral → Reading S A) → (Numeral → Reading S A) → (Numeral → Reading S A) → ℕ → Numeral → Reading S A
+numberedBy byLength byNumber byIndex kind n = choose (eqb kind 0) (byLength n) (choose (eqb kind 1) (byNumber n) (byIndex n))
