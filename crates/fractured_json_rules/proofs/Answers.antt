@@ -1,5 +1,5 @@
 -- The questions, put to a value that stands for a tree, are answered from that tree; `words` and `count` are a key table that
--- holds the keys of the document.
+-- holds the keys of the document, `names` the names of the key list.
 use Prim.Native.Nat.{ℕ, zero, suc, _+_, _≤_, _<_}
 use mathlib.Core.Bool.{Bool, true, false}
 use mathlib.Core.List.{List}
@@ -15,12 +15,14 @@ use Rattle.json.specs.Tree.{Tree, Trees, none, more, Members, end, depth, depth
 use Rattle.json.specs.Tree as Tree
 use Rattle.json.proofs.Reading.{then, pass}
 use Rattle.fractured_json_rules.specs.ByteTables.{bytes}
-use Rattle.fractured_json_rules.specs.Meaning.{Key, noKey, Keys, keyText, KeyIs, asText, asBack, ValueIs, ValuesAre, MembersAre}
+use Rattle.fractured_json_rules.specs.Meaning.{Names, Lists, Key, noKey, Keys, keyText, KeyIs, asText, asBack, asGlobal, ValueIs, ValuesAre, MembersAre}
+use Rattle.fractured_json_rules.specs.KeyList.{countIn, steps, nameOf}
 use Rattle.fractured_json_rules.specs.Verdict.{inTurn, member, keyBy}
 use Rattle.fractured_json_rules.specs.KeyTable.{roomOf, keyOf}
-use Rattle.fractured_json_rules.specs.TreeOf.{keyEnd, steps, endAt}
+use Rattle.fractured_json_rules.specs.TreeOf.{keyEnd, endAt}
 use Rattle.fractured_json_rules.specs.Leads.{FirstOf}
-use Rattle.fractured_json_rules.specs.Questions.{textKey, backKey, readKey, passKey, walk, inner, Found, valueAt, absent, findFrom, findIn}
+use Rattle.fractured_json_rules.specs.Questions.{theDocument, theList, KeyRead, lent, textIn, textKey, backKey, nameKey, readKey, passKey, walk, inner, Found, valueAt, absent, findFrom, findIn}
+use Rattle.fractured_json_rules.proofs.KeyList.{name-is}
 use Rattle.fractured_json_rules.proofs.Keys.{same-text, text-same, first-trans, first-length, first-key, grows, grows-all, grows-members, Inside, inside-at}
 use Rattle.fractured_json_rules.proofs.Readers.{byte-is, text-is, key-number-is}
 use Rattle.fractured_json_rules.proofs.Trees.{key-ends, ends}
@@ -33,10 +35,18 @@ pub record Holds (doc : List ℕ) (all : Keys) (words : List ℕ) (count : ℕ) 
   pub pair : (j : ℕ) → j < length all → keyOf words j ≡ getD all j noKey
   pub inside : Inside doc all
 
+-- The answer r is a key with the text t that ends at e; the text lies inside the bytes of its lender.
+pub record KeyAnswer (doc list t : List ℕ) (e : ℕ) (r : Asked KeyRead) : Type 0 where
+  pub read : KeyRead
+  pub answered : r ≡ answers read
+  pub inside : read .place + read .len ≤ length (lent doc list (read .lender))
+  pub text : textIn doc list read ≡ t
+  pub ends : read .past ≡ e
+
 -- where a member ends
-member-ends : (doc k : List ℕ) (t : Tree) (o : ℕ) (ks : Keys) (v : ℕ) (kv : Keys) (e : ℕ) (kz : Keys) → KeyIs doc k o ks v kv → ValueIs doc t v kv e kz → depth t ≤ deepest
+member-ends : (doc : List ℕ) (names : Names) (k : List ℕ) (t : Tree) (o : ℕ) (ks : Keys) (v : ℕ) (kv : Keys) (e : ℕ) (kz : Keys) → KeyIs doc names k o ks v kv → ValueIs doc names t v kv e kz → depth t ≤ deepest
     → endAt deepest doc (keyEnd doc o) ≡ e
-member-ends doc k t o ks v kv e kz h g d = ap (endAt deepest doc) (key-ends doc k o ks v kv h) ∙ ends doc t deepest v kv e kz g d
+member-ends doc names k t o ks v kv e kz h g d = ap (endAt deepest doc) (key-ends doc names k o ks v kv h) ∙ ends doc names t deepest v kv e kz g d
 
 -- a key that is not the first member's
 not-here : (k x : List ℕ) → isEqual (compareTexts k x) ≡ false → x ≡ k → ⊥
@@ -51,13 +61,20 @@ lacks : (k x : List ℕ) (t : Tree) (ms : Members) → isEqual (compareTexts k x
 lacks k x t ms q f zero v h = not-here k x q (h .0)
 lacks k x t ms q f (suc j) v h = f j v h
 
-module _ (doc : List ℕ) (all : Keys) (words : List ℕ) (count : ℕ) (table : Holds doc all words count) where
+module _ (doc list : List ℕ) (names : Names) (listed : Lists list names) (all : Keys) (words : List ℕ) (count : ℕ) (table : Holds doc all words count) where
   -- ---- keys
 
-  pub reads-key : (t : List ℕ) (o : ℕ) (ks : Keys) (e : ℕ) (kz : Keys) → KeyIs doc t o ks e kz → FirstOf kz all → ask (readKey doc words count o) ≡ answers (record { bytes = t; past = e })
-  unfolding readKey keyBy textKey backKey
+  pub reads-key : (t : List ℕ) (o : ℕ) (ks : Keys) (e : ℕ) (kz : Keys) → KeyIs doc names t o ks e kz → FirstOf kz all → KeyAnswer doc list t e (ask (readKey doc list words count o))
+  unfolding readKey keyBy textKey backKey nameKey
   reads-key t o ks e kz (asText x n b s i y f p q) g =
-      rw (p, y .same) (then _ _ tt (byte-is doc o o tt (s .inside)) ∙ rw (s .form-is) (then _ _ tt (key-number-is doc o x n b tt i) ∙ then _ _ tt (text-is doc o _ tt (y .inside))))
+      record {
+        read = record { lender = theDocument; place = b; len = n; past = b + n };
+        answered =
+            then _ _ tt (byte-is doc o o tt (s .inside)) ∙ rw (s .form-is) (then _ _ tt (key-number-is doc o x n b tt i) ∙ then _ _ tt (text-is doc o _ tt (y .inside)));
+        inside = y .inside;
+        text = sym (y .same);
+        ends = sym p;
+      }
   reads-key t o ks e kz (asBack x j s i h y q) g =
       let g′ = rw q at g in
       let less = first-length g′ in
@@ -66,39 +83,57 @@ module _ (doc : List ℕ) (all : Keys) (words : List ℕ) (count : ℕ) (table :
       let under : j < count = omega arith in
       let pair = table .pair j known in
       let fits : keyOf words j .start + keyOf words j .len ≤ length doc = subst (λ (k : Key). k .start + k .len ≤ length doc) (sym pair) (inside-at doc all (table .inside) j known) in
-      let text : keyText doc (keyOf words j) ≡ t = ap (keyText doc) (pair ∙ first-key ks all j g′ h) ∙ sym y in
-      then _ _ tt (byte-is doc o o tt (s .inside)) ∙ rw (s .form-is) (then _ _ tt (key-number-is doc o x j e tt i)
-      ∙ (pass _ _ _ _ tt (lt→ltb _ _ under) ∙ (pass _ _ _ _ tt (le→leb _ _ (table .roomy)) ∙ (pass _ _ _ _ tt (le→leb _ _ fits) ∙ ap (λ b. answers (record { bytes = b; past = e })) text))))
+      record {
+        read = record { lender = theDocument; place = keyOf words j .start; len = keyOf words j .len; past = e };
+        answered =
+            then _ _ tt (byte-is doc o o tt (s .inside)) ∙ rw (s .form-is) (then _ _ tt (key-number-is doc o x j e tt i)
+            ∙ (pass _ _ _ _ tt (lt→ltb _ _ under) ∙ (pass _ _ _ _ tt (le→leb _ _ (table .roomy)) ∙ pass _ _ _ _ tt (le→leb _ _ fits))));
+        inside = fits;
+        text = ap (keyText doc) (pair ∙ first-key ks all j g′ h) ∙ sym y;
+        ends = refl;
+      }
+  reads-key t o ks e kz (asGlobal x j s i h y q) g =
+      let c = listed .count in
+      let under : j < countIn list = omega arith in
+      let (name, fits) = name-is list names listed j h in
+      record {
+        read = record { lender = theList; place = nameOf list j .start; len = nameOf list j .len; past = e };
+        answered =
+            then _ _ tt (byte-is doc o o tt (s .inside)) ∙ rw (s .form-is) (then _ _ tt (key-number-is doc o x j e tt i) ∙ pass _ _ _ _ tt (lt→ltb _ _ under));
+        inside = fits;
+        text = name ∙ sym y;
+        ends = refl;
+      }
 
-  passes-key : (t : List ℕ) (o : ℕ) (ks : Keys) (e : ℕ) (kz : Keys) → KeyIs doc t o ks e kz → FirstOf kz all → ask (passKey doc words count o) ≡ answers e
+  passes-key : (t : List ℕ) (o : ℕ) (ks : Keys) (e : ℕ) (kz : Keys) → KeyIs doc names t o ks e kz → FirstOf kz all → ask (passKey doc list words count o) ≡ answers e
   unfolding passKey
-  passes-key t o ks e kz h g = then _ _ tt (reads-key t o ks e kz h g)
+  passes-key t o ks e kz h g = let k = reads-key t o ks e kz h g in then _ _ tt (k .answered) ∙ ap answers (k .ends)
 
   -- ---- walking
 
-  pub walks-value : (t : Tree) (l o : ℕ) (ks : Keys) (e : ℕ) (kz : Keys) → ValueIs doc t o ks e kz → FirstOf kz all → depth t ≤ l → ask (walk l doc words count o) ≡ answers e
-  walks-value = walks doc (passKey doc words count) all (λ _. tt {0}) passes-key
+  pub walks-value : (t : Tree) (l o : ℕ) (ks : Keys) (e : ℕ) (kz : Keys) → ValueIs doc names t o ks e kz → FirstOf kz all → depth t ≤ l → ask (walk l doc list words count o) ≡ answers e
+  walks-value = walks doc names (passKey doc list words count) all (λ _. tt {0}) passes-key
 
   -- to element i, and to the key of member j
-  pub walks-to-element : (ts : Trees) (i o : ℕ) (ks : Keys) (e : ℕ) (kz : Keys) → ValuesAre doc ts o ks e kz → FirstOf kz all → depths ts ≤ inner → i < size ts
-      → ask (inTurn (walk inner doc words count) i o) ≡ answers (steps (endAt deepest doc) i o)
+  pub walks-to-element : (ts : Trees) (i o : ℕ) (ks : Keys) (e : ℕ) (kz : Keys) → ValuesAre doc names ts o ks e kz → FirstOf kz all → depths ts ≤ inner → i < size ts
+      → ask (inTurn (walk inner doc list words count) i o) ≡ answers (steps (endAt deepest doc) i o)
   unfolding inTurn steps
   walks-to-element none i o ks e kz h g d b = absurd (omega arith)
   walks-to-element (more t ts) zero o ks e kz h g d b = refl
   walks-to-element (more t ts) (suc i) o ks e kz h g d b =
-      let past = ends doc t deepest o ks (h .0) (h .1) (h .2) (omega arith) in
-      then _ _ tt (walks-value t inner o ks (h .0) (h .1) (h .2) (first-trans (grows-all doc ts _ _ _ _ (h .3)) g) (omega arith))
+      let past = ends doc names t deepest o ks (h .0) (h .1) (h .2) (omega arith) in
+      then _ _ tt (walks-value t inner o ks (h .0) (h .1) (h .2) (first-trans (grows-all doc names ts _ _ _ _ (h .3)) g) (omega arith))
       ∙ (walks-to-element ts i (h .0) (h .1) e kz (h .3) g (omega arith) (omega arith) ∙ ap (λ p. answers (steps (endAt deepest doc) i p)) (sym past))
 
-  pub walks-to-member : (ms : Members) (j o : ℕ) (ks : Keys) (e : ℕ) (kz : Keys) → MembersAre doc ms o ks e kz → FirstOf kz all → depthm ms ≤ inner → j < sizem ms
-      → ask (inTurn (member (passKey doc words count) (walk inner doc words count)) j o) ≡ answers (steps (λ m. endAt deepest doc (keyEnd doc m)) j o)
+  pub walks-to-member : (ms : Members) (j o : ℕ) (ks : Keys) (e : ℕ) (kz : Keys) → MembersAre doc names ms o ks e kz → FirstOf kz all → depthm ms ≤ inner → j < sizem ms
+      → ask (inTurn (member (passKey doc list words count) (walk inner doc list words count)) j o) ≡ answers (steps (λ m. endAt deepest doc (keyEnd doc m)) j o)
   unfolding inTurn steps member
   walks-to-member end j o ks e kz h g d b = absurd (omega arith)
   walks-to-member (Tree.member k t ms) zero o ks e kz h g d b = refl
   walks-to-member (Tree.member k t ms) (suc j) o ks e kz h g d b =
-      let g2 = first-trans (grows-members doc ms _ _ _ _ (h .6)) g in
-      let g1 = first-trans (grows doc t _ _ _ _ (h .5)) g2 in
-      let past = member-ends doc k t o ks (h .0) (h .1) (h .2) (h .3) (h .4) (h .5) (omega arith) in
+      let g2 = first-trans (grows-members doc names ms _ _ _ _ (h .6)) g in
+      let g1 = first-trans (grows doc names t _ _ _ _ (h .5)) g2 in
+      let past = member-ends doc names k t o ks (h .0) (h .1) (h .2) (h .3) (h .4) (h .5) (omega arith) in
       then _ _ tt (then _ _ tt (passes-key k o ks (h .0) (h .1) (h .4) g1) ∙ walks-value t inner (h .0) (h .1) (h .2) (h .3) (h .5) g2 (omega arith))
       ∙ (walks-to-member ms j (h .2) (h .3) e kz (h .6) g (omega arith) (omega arith) ∙ ap (λ p. answers (steps (λ m. endAt deepest doc (keyEnd doc m)) j p)) (sym past))
 
@@ -127,28 +162,28 @@ module _ (doc : List ℕ) (all : Keys) (words : List ℕ) (count : ℕ) (table :
 
     -- the first key is read, and compared
     by-first : (k : List ℕ) (t : Tree) (ms : Members) (o v : ℕ) (rest : ℕ → Reading (Unit {0}) Found)
-        → ask (readKey doc words count o) ≡ answers (record { bytes = k; past = v }) → keyEnd doc o ≡ v
+        → KeyAnswer doc list k v (ask (readKey doc list words count o)) → keyEnd doc o ≡ v
         → (b : Bool) → isEqual (compareTexts k x) ≡ b → (isEqual (compareTexts k x) ≡ false → Lookup (Tree.member k t ms) o (ask (rest v)))
         → Lookup (Tree.member k t ms) o
-        (ask (readKey doc words count o >>= λ r. choose (isEqual (compareTexts (r .bytes) x)) (answer (valueAt (r .past))) (rest (r .past))))
+        (ask (readKey doc list words count o >>= λ r. choose (isEqual (compareTexts (textIn doc list r) x)) (answer (valueAt (r .past))) (rest (r .past))))
     unfolding choose
-    by-first k t ms o v rest read past true q f = here k t ms o v _ q past (then _ _ tt read ∙ rw q)
-    by-first k t ms o v rest read past false q f = subst (λ (r : Asked Found). Lookup (Tree.member k t ms) o r) (sym (then _ _ tt read ∙ rw q)) (f q)
+    by-first k t ms o v rest read past true q f = here k t ms o v _ q past (then _ _ tt (read .answered) ∙ rw (read .text, read .ends, q))
+    by-first k t ms o v rest read past false q f = subst (λ (r : Asked Found). Lookup (Tree.member k t ms) o r) (sym (then _ _ tt (read .answered) ∙ rw (read .text, read .ends, q))) (f q)
 
-    pub finds : (ms : Members) (o : ℕ) (ks : Keys) (e : ℕ) (kz : Keys) → MembersAre doc ms o ks e kz → FirstOf kz all → depthm ms ≤ inner
-        → Lookup ms o (ask (findIn doc words count x (sizem ms) o))
+    pub finds : (ms : Members) (o : ℕ) (ks : Keys) (e : ℕ) (kz : Keys) → MembersAre doc names ms o ks e kz → FirstOf kz all → depthm ms ≤ inner
+        → Lookup ms o (ask (findIn doc list words count x (sizem ms) o))
     unfolding findIn findFrom
     finds end o ks e kz h g d = miss (λ j v b. b) refl
     finds (Tree.member k t end) o ks e kz h g d =
-        let g2 = first-trans (grows-members doc end _ _ _ _ (h .6)) g in
-        let g1 = first-trans (grows doc t _ _ _ _ (h .5)) g2 in
-        by-first k t end o (h .0) (λ p. answer absent) (reads-key k o ks (h .0) (h .1) (h .4) g1) (key-ends doc k o ks (h .0) (h .1) (h .4))
+        let g2 = first-trans (grows-members doc names end _ _ _ _ (h .6)) g in
+        let g1 = first-trans (grows doc names t _ _ _ _ (h .5)) g2 in
+        by-first k t end o (h .0) (λ p. answer absent) (reads-key k o ks (h .0) (h .1) (h .4) g1) (key-ends doc names k o ks (h .0) (h .1) (h .4))
         (isEqual (compareTexts k x)) refl (λ q. miss (lacks k x t end q (λ j v b. b)) refl)
     finds (Tree.member k t (Tree.member y u ms)) o ks e kz h g d =
-        let g2 = first-trans (grows-members doc (Tree.member y u ms) _ _ _ _ (h .6)) g in
-        let g1 = first-trans (grows doc t _ _ _ _ (h .5)) g2 in
+        let g2 = first-trans (grows-members doc names (Tree.member y u ms) _ _ _ _ (h .6)) g in
+        let g1 = first-trans (grows doc names t _ _ _ _ (h .5)) g2 in
         let rest = finds (Tree.member y u ms) (h .2) (h .3) e kz (h .6) g (omega arith) in
-        by-first k t (Tree.member y u ms) o (h .0) (λ p. walk inner doc words count p >>= λ next. findFrom doc words count x (sizem ms) next)
-        (reads-key k o ks (h .0) (h .1) (h .4) g1) (key-ends doc k o ks (h .0) (h .1) (h .4)) (isEqual (compareTexts k x)) refl
-        (λ q. later k t (Tree.member y u ms) o (h .2) _ q (member-ends doc k t o ks (h .0) (h .1) (h .2) (h .3) (h .4) (h .5) (omega arith))
+        by-first k t (Tree.member y u ms) o (h .0) (λ p. walk inner doc list words count p >>= λ next. findFrom doc list words count x (sizem ms) next)
+        (reads-key k o ks (h .0) (h .1) (h .4) g1) (key-ends doc names k o ks (h .0) (h .1) (h .4)) (isEqual (compareTexts k x)) refl
+        (λ q. later k t (Tree.member y u ms) o (h .2) _ q (member-ends doc names k t o ks (h .0) (h .1) (h .2) (h .3) (h .4) (h .5) (omega arith))
         (subst (λ (r : Asked Found). Lookup (Tree.member y u ms) (h .2) r) (sym (then _ _ tt (walks-value t inner (h .0) (h .1) (h .2) (h .3) (h .5) g2 (omega arith)))) rest))

@@ -1,5 +1,5 @@
--- Small documents with what the check and the questions say of them: each number of refusal with its place and the pairs of
--- the keys passed until then, and good answers of each question. 32 is shown for every document that is too long.
+-- Small key lists and documents with what the checks and the questions say of them: each number of refusal with its place and the
+-- pairs of the keys passed until then, and good answers of each question. 32 is shown for every document that is too long.
 use Prim.Native.Nat.{ℕ, _-_, _/_, _≤_, _<_}
 use mathlib.Core.List.{List, [], _∷_, _++_, map}
 use mathlib.Core.Path.{_≡_, refl, _∙_}
@@ -12,35 +12,90 @@ use Rattle.json.specs.Limits.{leastFractured, longest}
 use Rattle.json.specs.Number.{finite}
 use Rattle.json.specs.Reading.{halt, done, follow, _>>=_, need, Asked, ask, answers, refuses}
 use Rattle.json.specs.Texts.{byNumbers, compareTexts}
-use Rattle.json.proofs.Reading.{stops, pass, fail}
+use Rattle.json.proofs.Reading.{then, stops, pass, fail}
 use Rattle.fractured_json_rules.specs.ByteTables.{formOf, keyFormOf}
-use Rattle.fractured_json_rules.specs.Verdict.{header, byteAt, payload, lengthAt, textAt, afterSecond, afterFirst, keyNumberAt, inTurn, member, valueBy, value, met}
-use Rattle.fractured_json_rules.specs.Verdict.{keyBy, newKey, oldKey, checkKey, check, verdict}
+use Rattle.fractured_json_rules.specs.Meaning.{Names, Lists}
+use Rattle.fractured_json_rules.specs.KeyList.{met, namesFrom, keyList, noNames, steps, nameOf}
+use Rattle.fractured_json_rules.specs.Verdict.{header, byteAt, payload, lengthAt, textAt, afterSecond, afterFirst, keyNumberAt, inTurn, member, valueBy, value}
+use Rattle.fractured_json_rules.specs.Verdict.{keyBy, newKey, oldKey, listedKey, checkKey, check, verdict}
 use Rattle.fractured_json_rules.specs.KeyTable.{roomOf, stored, Checked, checked}
-use Rattle.fractured_json_rules.specs.Questions.{opening, typeAt, textKey, backKey, readKey, passKey, endOf, Kind, isNull, isFalse, isTrue, isNumber}
+use Rattle.fractured_json_rules.specs.Questions.{opening, typeAt, theDocument, theList, KeyRead, textKey, backKey, nameKey, readKey, passKey, endOf, Kind, isNull, isFalse, isTrue, isNumber}
 use Rattle.fractured_json_rules.specs.Questions.{isString, isObject, isArray, kindBy, kind, numberBy, wantedBy, wantedAt, stringBytes}
-use Rattle.fractured_json_rules.specs.Questions.{elementFrom, memberFrom, Found, valueAt, findFrom, findIn, firstMember}
+use Rattle.fractured_json_rules.specs.Questions.{elementFrom, memberFrom, Found, valueAt, findFrom, findIn, firstMember, keyBytes}
 use Rattle.fractured_json_rules.specs.Questions as Questions
+use Rattle.fractured_json_rules.proofs.KeyList.{list-is}
 
 -- a value in n arrays of one element each
 abbrev nested : ℕ → List ℕ → List ℕ
 nested n rest = hex 3 0x464A01 ++ replicate n 0x9F ++ rest
 
+-- ---- key lists
+
+-- "a", "b"
+abbrev twoNames : List ℕ
+twoNames = hex 9 0x000200010061010062
+
+record ListExample : Type 0 where
+  list : List ℕ
+  says : Asked (Unit {0})
+
+abbrev of : List ℕ → Asked (Unit {0}) → ListExample
+of list says = record { list = list; says = says }
+
+abbrev lists : List ListExample
+lists =
+    of noNames (answers tt) ∷
+    of twoNames (answers tt) ∷
+    of (hex 5 0x0001000000) (answers tt) ∷
+    -- 51
+    of (hex 3 0x010000) (refuses 51 0) ∷
+    of (hex 1 0x80) (refuses 51 0) ∷
+    -- 52: config, count, length, text
+    of [] (refuses 52 0) ∷
+    of (hex 1 0x00) (refuses 52 1) ∷
+    of (hex 2 0x0000) (refuses 52 1) ∷
+    of (hex 3 0x000100) (refuses 52 3) ∷
+    of (hex 4 0x00010000) (refuses 52 3) ∷
+    of (hex 5 0x0001000100) (refuses 52 5) ∷
+    of (hex 6 0x000100020061) (refuses 52 5) ∷
+    of (hex 7 0x00020001006101) (refuses 52 6) ∷
+    of (hex 5 0x0000010000) (refuses 52 5) ∷
+    -- 53
+    of (hex 4 0x00000000) (refuses 53 3) ∷
+    of (hex 10 0x00020001006101006200) (refuses 53 9) ∷
+    -- 54: before the next name, and before the end
+    of (hex 9 0x000200010061010061) (refuses 54 6) ∷
+    of (hex 9 0x000300010061010061) (refuses 54 6) ∷
+    of (hex 10 0x00020001006101006100) (refuses 54 6) ∷
+    of (hex 7 0x00020000000000) (refuses 54 5) ∷
+    of (hex 12 0x000300010061010062010061) (refuses 54 9) ∷
+    []
+
+pub lists-say : map (λ e. ask (keyList (e .list))) lists ≡ map (λ e. e .says) lists
+unfolding follow _>>=_ need choose number byNumbers compareTexts met namesFrom keyList
+lists-say = refl
+
 -- ---- the check
 
--- a document, the words lent, and what the check says and leaves in them
+-- a document, a key list, the words lent, and what the check says and leaves in them
 record Example : Type 0 where
   doc : List ℕ
+  list : List ℕ
   lent : List ℕ
   says : Checked
 
 -- so many words lent, each 9; the pairs of the keys passed stand in the first of them, and the others still hold 9
-abbrev example : List ℕ → ℕ → Asked (Unit {0}) → List ℕ → Example
-example doc lent verdict passed = record {
+abbrev listed : List ℕ → List ℕ → ℕ → Asked (Unit {0}) → List ℕ → Example
+listed list doc lent verdict passed = record {
   doc = doc;
+  list = list;
   lent = replicate lent 9;
   says = record { verdict = verdict; count = length passed / 2; words = passed ++ replicate (lent - length passed) 9 };
 }
+
+-- with the list without a name
+abbrev example : List ℕ → ℕ → Asked (Unit {0}) → List ℕ → Example
+example = listed noNames
 
 abbrev accepted : Asked (Unit {0})
 accepted = answers tt
@@ -104,25 +159,40 @@ examples =
     example (hex 10 0x464A016F008180006100) 4 accepted (8 ∷ 1 ∷ []) ∷
     example (nested 31 (hex 1 0x9E)) 4 accepted [] ∷
     example (nested 32 (hex 1 0x00)) 4 accepted [] ∷
+    -- a bad list before 31; the words stay as they were
+    listed [] [] 4 (refuses 52 0) [] ∷
+    listed (hex 4 0x00000000) (hex 7 0x464A016F046100) 4 (refuses 53 3) [] ∷
+    -- 38: a global index is found under the count, in all three spellings
+    listed twoNames (hex 6 0x464A016FAC00) 4 accepted [] ∷
+    listed twoNames (hex 7 0x464A016F020100) 4 accepted [] ∷
+    listed twoNames (hex 8 0x464A016F02818000) 4 (refuses 35 8) [] ∷
+    listed twoNames (hex 9 0x464A016F0281800000) 4 accepted [] ∷
+    listed twoNames (hex 6 0x464A016FAD00) 4 (refuses 38 4) [] ∷
+    listed twoNames (hex 7 0x464A016F020200) 4 (refuses 38 4) [] ∷
+    listed twoNames (hex 9 0x464A016F0282800000) 4 (refuses 38 4) [] ∷
+    -- 39: immediate texts alone; a global index takes no number and no pair
+    listed twoNames (hex 7 0x464A016F046100) 4 accepted (5 ∷ 1 ∷ []) ∷
+    listed twoNames (hex 11 0x464A0171AB000461005700) 4 accepted (7 ∷ 1 ∷ []) ∷
+    listed twoNames (hex 8 0x464A0170AB005700) 4 (refuses 38 6) [] ∷
     []
 
-pub check-says : map (λ e. checked (e .doc) (e .lent)) examples ≡ map (λ e. e .says) examples
+pub check-says : map (λ e. checked (e .doc) (e .list) (e .lent)) examples ≡ map (λ e. e .says) examples
 unfolding follow _>>=_ need choose number finite byNumbers compareTexts formOf keyFormOf header byteAt payload lengthAt textAt afterSecond afterFirst keyNumberAt
-    inTurn member valueBy value keyBy met newKey oldKey checkKey check roomOf stored
+    inTurn member valueBy value keyBy met namesFrom keyList newKey oldKey listedKey checkKey check roomOf stored
 check-says = refl
 
 -- 32: over 65,536 bytes
-pub too-long : (room : ℕ) (doc : List ℕ) → longest < length doc → verdict room doc ≡ halt 32 (length doc) []
+pub too-long : (room : ℕ) (doc list : List ℕ) (names : Names) → Lists list names → longest < length doc → verdict room doc list ≡ halt 32 (length doc) []
 unfolding check header
-too-long room doc h =
+too-long room doc list names l h =
     let long : leastFractured ≤ length doc = omega arith in
-    stops _ _ [] (pass _ _ _ _ [] (le→leb _ _ long) ∙ fail _ _ _ _ [] (λ t. let s = leb→le (length doc) longest t in omega arith))
+    then _ _ [] (list-is list names [] l) ∙ stops _ _ [] (pass _ _ _ _ [] (le→leb _ _ long) ∙ fail _ _ _ _ [] (λ t. let s = leb→le (length doc) longest t in omega arith))
 
 -- ---- the questions
 
 -- a question with its cursor
 pub data Question : Type 0 where
-  endAt kindAt numberAt stringAt stringBytesAt : ℕ → Question
+  endAt kindAt numberAt stringAt stringBytesAt keyAt keyBytesAt : ℕ → Question
   elementAt memberAt : ℕ → ℕ → Question
   firstMemberOf : ℕ → List ℕ → Question
 
@@ -135,6 +205,7 @@ pub data Answer : Type 0 where
   bitsAre : (type bits : ℕ) → Answer
   spanIs : (place len : ℕ) → Answer
   bytesAre : List ℕ → Answer
+  keyIs : KeyRead → Answer
 
 abbrev reply : {A : Type 0} → (A → Answer) → Asked A → Answer
 reply f (halt number place u) = refused number place
@@ -144,26 +215,40 @@ abbrev foundAt : Found → Answer
 foundAt (valueAt p) = placeIs p
 foundAt Questions.absent = absent
 
--- the question, put to a document with a key table and its count
-abbrev put : List ℕ → List ℕ → ℕ → Question → Answer
-put doc table count (endAt c) = reply placeIs (ask (endOf doc table count c))
-put doc table count (kindAt c) = reply kindIs (ask (kind doc c))
-put doc table count (numberAt c) = reply (λ b. bitsAre (b .type) (b .bits)) (ask (Questions.numberAt doc c))
-put doc table count (stringAt c) = reply (λ s. spanIs (s .place) (s .len)) (ask (Questions.stringAt doc c))
-put doc table count (stringBytesAt c) = bytesAre (stringBytes doc c)
-put doc table count (elementAt c i) = reply placeIs (ask (Questions.elementAt doc table count c i))
-put doc table count (memberAt c j) = reply (λ p. placesAre (p .key) (p .value)) (ask (Questions.memberAt doc table count c j))
-put doc table count (firstMemberOf c x) = reply foundAt (ask (firstMember doc table count c x))
+-- the question, put to a document with a key list, a key table and its count
+abbrev put : List ℕ → List ℕ → List ℕ → ℕ → Question → Answer
+put doc list table count (endAt c) = reply placeIs (ask (endOf doc list table count c))
+put doc list table count (kindAt c) = reply kindIs (ask (kind doc list c))
+put doc list table count (numberAt c) = reply (λ b. bitsAre (b .type) (b .bits)) (ask (Questions.numberAt doc list c))
+put doc list table count (stringAt c) = reply (λ s. spanIs (s .place) (s .len)) (ask (Questions.stringAt doc list c))
+put doc list table count (stringBytesAt c) = bytesAre (stringBytes doc list c)
+put doc list table count (elementAt c i) = reply placeIs (ask (Questions.elementAt doc list table count c i))
+put doc list table count (memberAt c j) = reply (λ p. placesAre (p .key) (p .value)) (ask (Questions.memberAt doc list table count c j))
+put doc list table count (firstMemberOf c x) = reply foundAt (ask (firstMember doc list table count c x))
+put doc list table count (keyAt c) = reply keyIs (ask (Questions.keyAt doc list table count c))
+put doc list table count (keyBytesAt c) = bytesAre (keyBytes doc list table count c)
 
 record Line : Type 0 where
   doc : List ℕ
+  list : List ℕ
   table : List ℕ
   count : ℕ
   question : Question
   says : Answer
 
+abbrev lineWith : List ℕ → List ℕ → List ℕ → ℕ → Question → Answer → Line
+lineWith list doc table count question says = record { doc = doc; list = list; table = table; count = count; question = question; says = says }
+
+-- with the list without a name
 abbrev line : List ℕ → List ℕ → ℕ → Question → Answer → Line
-line doc table count question says = record { doc = doc; table = table; count = count; question = question; says = says }
+line = lineWith noNames
+
+-- a key: its text's place and length in the document or in the key list, and where it ends
+abbrev inDocument : ℕ → ℕ → ℕ → Answer
+inDocument place len past = keyIs (record { lender = theDocument; place = place; len = len; past = past })
+
+abbrev inList : ℕ → ℕ → ℕ → Answer
+inList place len past = keyIs (record { lender = theList; place = place; len = len; past = past })
 
 abbrev lines : List Line
 lines =
@@ -267,10 +352,45 @@ lines =
     line (hex 4 0x464A016E) [] 0 (firstMemberOf 3 []) absent ∷
     line (hex 9 0x464A01700461005701) (0 ∷ 2 ∷ []) 1 (firstMemberOf 3 (70 ∷ 74 ∷ [])) (placeIs 8) ∷
     line (hex 6 0x464A016F5700) (6 ∷ 0 ∷ []) 1 (firstMemberOf 3 []) (placeIs 5) ∷
+    -- with a key list: a bad one before 31, to every question
+    lineWith [] [] [] 0 (endAt 0) (refused 52 0) ∷
+    lineWith (hex 3 0x010000) (hex 4 0x464A0100) [] 0 (kindAt 3) (refused 51 0) ∷
+    lineWith (hex 4 0x00000000) [] [] 0 (numberAt 3) (refused 53 3) ∷
+    lineWith (hex 2 0x0000) [] [] 0 (stringAt 3) (refused 52 1) ∷
+    lineWith (hex 2 0x0000) (hex 5 0x464A011761) [] 0 (stringBytesAt 3) (bytesAre []) ∷
+    lineWith (hex 7 0x00020000000000) [] [] 0 (elementAt 3 0) (refused 54 5) ∷
+    lineWith (hex 2 0x0000) [] [] 0 (memberAt 3 0) (refused 52 1) ∷
+    lineWith (hex 2 0x0000) [] [] 0 (firstMemberOf 3 []) (refused 52 1) ∷
+    lineWith (hex 2 0x0000) [] [] 0 (keyAt 3) (refused 52 1) ∷
+    -- a global key's text is the name
+    lineWith twoNames (hex 9 0x464A0170AB00046101) [] 0 (endAt 3) (placeIs 9) ∷
+    lineWith twoNames (hex 9 0x464A0170AB00AC0100) [] 0 (memberAt 3 1) (placesAre 6 7) ∷
+    lineWith twoNames (hex 9 0x464A0170AB00046101) [] 0 (firstMemberOf 3 (97 ∷ [])) (placeIs 5) ∷
+    lineWith twoNames (hex 8 0x464A0170AB00AC01) [] 0 (firstMemberOf 3 (98 ∷ [])) (placeIs 7) ∷
+    lineWith twoNames (hex 8 0x464A0170AB00AC01) [] 0 (firstMemberOf 3 (99 ∷ [])) absent ∷
+    lineWith twoNames (hex 8 0x464A0170AB00AD01) [] 0 (firstMemberOf 3 (99 ∷ [])) (refused 38 6) ∷
+    -- a key at its key byte
+    line (hex 3 0x464A01) [] 0 (keyAt 2) (refused 31 3) ∷
+    line (hex 7 0x464A016F046100) [] 0 (keyAt 2) (refused 20 2) ∷
+    line (hex 7 0x464A016F046100) [] 0 (keyAt 7) (refused 35 7) ∷
+    line (hex 7 0x464A016FFF6100) [] 0 (keyAt 4) (refused 36 4) ∷
+    line (hex 8 0x464A016F00FFFF04) [] 0 (keyAt 4) (refused 37 7) ∷
+    line (hex 6 0x464A016F0561) [] 0 (keyAt 4) (refused 35 4) ∷
+    line (hex 7 0x464A016F046100) [] 0 (keyAt 4) (inDocument 5 1 6) ∷
+    line (hex 7 0x464A016F046100) [] 0 (keyBytesAt 4) (bytesAre (97 ∷ [])) ∷
+    line (hex 9 0x464A01700461005701) (5 ∷ 1 ∷ []) 1 (keyAt 7) (inDocument 5 1 8) ∷
+    line (hex 9 0x464A01700461005701) (5 ∷ 1 ∷ []) 1 (keyBytesAt 7) (bytesAre (97 ∷ [])) ∷
+    line (hex 9 0x464A01700461005701) (5 ∷ 1 ∷ []) 0 (keyAt 7) (refused 38 7) ∷
+    line (hex 9 0x464A01700461005701) (5 ∷ 1 ∷ []) 0 (keyBytesAt 7) (bytesAre []) ∷
+    lineWith twoNames (hex 6 0x464A016FAC00) [] 0 (keyAt 4) (inList 8 1 5) ∷
+    lineWith twoNames (hex 9 0x464A016F0281800000) [] 0 (keyAt 4) (inList 8 1 8) ∷
+    lineWith twoNames (hex 6 0x464A016FAC00) [] 0 (keyBytesAt 4) (bytesAre (98 ∷ [])) ∷
+    lineWith twoNames (hex 6 0x464A016FAD00) [] 0 (keyAt 4) (refused 38 4) ∷
+    lineWith twoNames (hex 6 0x464A016FAD00) [] 0 (keyBytesAt 4) (bytesAre []) ∷
     []
 
-pub questions-say : map (λ l. put (l .doc) (l .table) (l .count) (l .question)) lines ≡ map (λ l. l .says) lines
+pub questions-say : map (λ l. put (l .doc) (l .list) (l .table) (l .count) (l .question)) lines ≡ map (λ l. l .says) lines
 unfolding follow _>>=_ need choose number finite byNumbers compareTexts formOf keyFormOf header byteAt payload lengthAt textAt afterSecond afterFirst keyNumberAt
-    inTurn member valueBy value keyBy roomOf opening typeAt textKey backKey readKey passKey endOf kindBy kind numberBy Questions.numberAt wantedBy wantedAt
-    Questions.stringAt elementFrom Questions.elementAt memberFrom Questions.memberAt findFrom findIn firstMember
+    inTurn member valueBy value keyBy met namesFrom keyList steps nameOf roomOf opening typeAt textKey backKey nameKey readKey passKey endOf kindBy kind numberBy Questions.numberAt wantedBy wantedAt
+    Questions.stringAt elementFrom Questions.elementAt memberFrom Questions.memberAt findFrom findIn firstMember Questions.keyAt
 questions-say = refl

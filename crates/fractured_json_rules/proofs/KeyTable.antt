@@ -14,7 +14,8 @@ use Rattle.fractured_json_rules.specs.ByteTables.{Len, tiny, after, Form
 use Rattle.fractured_json_rules.specs.ByteTables.{KeyNumber, inByte, spelled, KeyForm, immediate, backReference, globalIndex, kReserved, keyFormOf}
 use Rattle.fractured_json_rules.specs.Meaning.{noKey, Keys}
 use Rattle.fractured_json_rules.specs.Verdict.{header, byteAt, payload, lengthAt, textAt, Numeral, afterSecond, afterFirst, keyNumberAt, inTurn, member, valueBy}
-use Rattle.fractured_json_rules.specs.Verdict.{value, keyBy, newKey, oldKey, checkKey, check, verdict, keysOf}
+use Rattle.fractured_json_rules.specs.Verdict.{value, keyBy, newKey, oldKey, listedKey, checkKey, check, verdict, keysOf}
+use Rattle.fractured_json_rules.specs.KeyList.{namesFrom, countIn, keyList}
 use Rattle.fractured_json_rules.specs.KeyTable.{roomOf, pairs, stored, keyOf}
 use Rattle.fractured_json_rules.proofs.Readers.{kept-is, keep-is}
 
@@ -43,6 +44,18 @@ module _ (room : ℕ) where
   unfolding _>>=_ follow need
   keeps-test true n p f ks h k = k tt
   keeps-test false n p f ks h k = h
+
+  -- the key list
+  keeps-names : (list : List ℕ) (n o : ℕ) (names : Keys) → Keeps (namesFrom list n o names)
+  unfolding namesFrom
+  keeps-names list zero o names = keeps-need _ _ _
+  keeps-names list (suc n) o names =
+      keeps-then _ _ (keeps-need _ _ _) λ _. keeps-then _ _ (keeps-need _ _ _) λ _. keeps-then _ _ (keeps-need _ _ _) λ _. keeps-names list n _ _
+
+  keeps-list : (list : List ℕ) → Keeps (keyList list)
+  unfolding keyList
+  keeps-list list =
+      keeps-then _ _ (keeps-need _ _ _) λ _. keeps-then _ _ (keeps-need _ _ _) λ _. keeps-then _ _ (keeps-need _ _ _) λ _. keeps-names list (countIn list) 3 []
 
   -- the readers
   module _ (doc : List ℕ) where
@@ -94,25 +107,29 @@ module _ (room : ℕ) where
     unfolding oldKey
     keeps-old o n ks h = rw (kept-is _ ks) (keeps-test _ _ _ _ ks h λ _. h)
 
-    keeps-key-by : (o : ℕ) (k : KeyForm) → Keeps (keyBy doc o (newKey room doc o) (oldKey o) k)
-    unfolding keyBy
-    keeps-key-by o (immediate x) ks h = keeps-then _ _ (keeps-key-number o x) (λ n. keeps-new o n) ks h
-    keeps-key-by o (backReference x) ks h = keeps-then _ _ (keeps-key-number o x) (λ n. keeps-old o n) ks h
-    keeps-key-by o (globalIndex x) ks h = keeps-then _ _ (keeps-key-number o x) (λ n kz i. i) ks h
-    keeps-key-by o kReserved ks h = h
+    keeps-listed : (names o : ℕ) (n : Numeral) → Keeps (listedKey names o n)
+    unfolding listedKey
+    keeps-listed names o n = keeps-then _ _ (keeps-need _ _ _) (λ _ ks h. h)
 
-    keeps-key : (o : ℕ) → Keeps (checkKey room doc o)
+    keeps-key-by : (names o : ℕ) (k : KeyForm) → Keeps (keyBy doc o (newKey room doc o) (oldKey o) (listedKey names o) k)
+    unfolding keyBy
+    keeps-key-by names o (immediate x) ks h = keeps-then _ _ (keeps-key-number o x) (λ n. keeps-new o n) ks h
+    keeps-key-by names o (backReference x) ks h = keeps-then _ _ (keeps-key-number o x) (λ n. keeps-old o n) ks h
+    keeps-key-by names o (globalIndex x) ks h = keeps-then _ _ (keeps-key-number o x) (λ n. keeps-listed names o n) ks h
+    keeps-key-by names o kReserved ks h = h
+
+    keeps-key : (names o : ℕ) → Keeps (checkKey room doc names o)
     unfolding checkKey
-    keeps-key o = keeps-then _ _ (keeps-byte _ _) (λ b. keeps-key-by o (keyFormOf b))
+    keeps-key names o = keeps-then _ _ (keeps-byte _ _) (λ b. keeps-key-by names o (keyFormOf b))
 
     keeps-turns : (thing : ℕ → Reading Keys ℕ) → ((o : ℕ) → Keeps (thing o)) → (n o : ℕ) → Keeps (inTurn thing n o)
     unfolding inTurn
     keeps-turns thing k zero o ks h = h
     keeps-turns thing k (suc n) o ks h = keeps-then _ _ (k o) (λ next. keeps-turns thing k n next) ks h
 
-    keeps-member : (value : ℕ → Reading Keys ℕ) → ((o : ℕ) → Keeps (value o)) → (o : ℕ) → Keeps (member (checkKey room doc) value o)
+    keeps-member : (names : ℕ) (value : ℕ → Reading Keys ℕ) → ((o : ℕ) → Keeps (value o)) → (o : ℕ) → Keeps (member (checkKey room doc names) value o)
     unfolding member
-    keeps-member value k o = keeps-then _ _ (keeps-key o) (λ v. k v)
+    keeps-member names value k o = keeps-then _ _ (keeps-key names o) (λ v. k v)
 
     keeps-by : (o : ℕ) (array object : Numeral → Reading Keys ℕ) → ((n : Numeral) → Keeps (array n)) → ((n : Numeral) → Keeps (object n))
         → (f : Form) → Keeps (valueBy doc o array object f)
@@ -127,19 +144,19 @@ module _ (room : ℕ) where
     keeps-by o array object ha ho (fArray x) ks h = keeps-then _ _ (keeps-length o x) ha ks h
     keeps-by o array object ha ho fReserved ks h = h
 
-    keeps-value : (l o : ℕ) → Keeps (value (checkKey room doc) l doc o)
+    keeps-value : (names l o : ℕ) → Keeps (value (checkKey room doc names) l doc o)
     unfolding value
-    keeps-value zero o = keeps-then _ _ (keeps-byte _ _) (λ b. keeps-by o _ _ (λ n ks h. h) (λ n ks h. h) (formOf b))
-    keeps-value (suc l) o =
-        keeps-then _ _ (keeps-byte _ _) (λ b. keeps-by o _ _ (λ n. keeps-turns _ (keeps-value l) (n .is) (n .past)) (λ n. keeps-turns _ (keeps-member _ (keeps-value l)) (n .is) (n .past)) (formOf b))
+    keeps-value names zero o = keeps-then _ _ (keeps-byte _ _) (λ b. keeps-by o _ _ (λ n ks h. h) (λ n ks h. h) (formOf b))
+    keeps-value names (suc l) o =
+        keeps-then _ _ (keeps-byte _ _) (λ b. keeps-by o _ _ (λ n. keeps-turns _ (keeps-value names l) (n .is) (n .past)) (λ n. keeps-turns _ (keeps-member names _ (keeps-value names l)) (n .is) (n .past)) (formOf b))
 
-    keeps-check : Keeps (check room doc)
+    keeps-check : (list : List ℕ) → Keeps (check room doc list)
     unfolding check
-    keeps-check = keeps-then _ _ keeps-header λ _. keeps-then _ _ (keeps-value deepest 3) λ past. keeps-need _ _ _
+    keeps-check list = keeps-then _ _ (keeps-list list) λ _. keeps-then _ _ keeps-header λ _. keeps-then _ _ (keeps-value (countIn list) deepest 3) λ past. keeps-need _ _ _
 
 -- the keys passed are at most the room, refused or not
-pub passed-room : (room : ℕ) (doc : List ℕ) → length (keysOf (verdict room doc)) ≤ room
-passed-room room doc = keeps-check room doc [] (omega arith)
+pub passed-room : (room : ℕ) (doc list : List ℕ) → length (keysOf (verdict room doc list)) ≤ room
+passed-room room doc list = keeps-check room doc list [] (omega arith)
 
 -- ---- the words afterwards
 

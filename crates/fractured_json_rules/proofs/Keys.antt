@@ -12,8 +12,8 @@ use Rattle.json.specs.Tree.{Tree, null, bool, num, str, arr, obj, Trees, none, 
 use Rattle.json.specs.declared.Order.{Order}
 use Rattle.json.specs.declared.Order.the-variants.{Below, Equal, Above}
 use Rattle.json.proofs.Texts.{texts-equal}
-use Rattle.fractured_json_rules.specs.Meaning.{Key, noKey, Keys, keyText, Fresh, KeyIs, asText, asBack, ValueIs, ValuesAre, MembersAre}
-use Rattle.fractured_json_rules.specs.Verdict.{met}
+use Rattle.fractured_json_rules.specs.Meaning.{Key, noKey, Keys, keyText, Names, Fresh, KeyIs, asText, asBack, asGlobal, ValueIs, ValuesAre, MembersAre}
+use Rattle.fractured_json_rules.specs.KeyList.{met}
 use Rattle.fractured_json_rules.specs.Leads.{FirstOf}
 
 -- ---- two texts that are compared
@@ -74,13 +74,14 @@ first-key ks kz j g h = rw (g .same) (List·getD-append ks (g .rest) noKey j h)
 
 -- ---- reading a value meets more keys, and forgets none
 
-module _ (doc : List ℕ) where
-  key-grows : {t : List ℕ} {o : ℕ} {ks : Keys} {e : ℕ} {kz : Keys} → KeyIs doc t o ks e kz → FirstOf ks kz
+module _ (doc : List ℕ) (names : Names) where
+  key-grows : {t : List ℕ} {o : ℕ} {ks : Keys} {e : ℕ} {kz : Keys} → KeyIs doc names t o ks e kz → FirstOf ks kz
   key-grows (asText x n b s i t f e k) = record { rest = _; same = k }
   key-grows (asBack x j s i h t k) = first-same k
+  key-grows (asGlobal x j s i h t k) = first-same k
 
   mutual
-    pub grows : (t : Tree) (o : ℕ) (ks : Keys) (e : ℕ) (kz : Keys) → ValueIs doc t o ks e kz → FirstOf ks kz
+    pub grows : (t : Tree) (o : ℕ) (ks : Keys) (e : ℕ) (kz : Keys) → ValueIs doc names t o ks e kz → FirstOf ks kz
     grows null o ks e kz h = first-same (h .2)
     grows (bool b) o ks e kz h = first-same (h .2)
     grows (num s m) o ks e kz h = first-same (h .1)
@@ -88,11 +89,11 @@ module _ (doc : List ℕ) where
     grows (arr ts) o ks e kz h = grows-all ts _ _ _ _ (h .3)
     grows (obj ms) o ks e kz h = grows-members ms _ _ _ _ (h .3)
 
-    pub grows-all : (ts : Trees) (o : ℕ) (ks : Keys) (e : ℕ) (kz : Keys) → ValuesAre doc ts o ks e kz → FirstOf ks kz
+    pub grows-all : (ts : Trees) (o : ℕ) (ks : Keys) (e : ℕ) (kz : Keys) → ValuesAre doc names ts o ks e kz → FirstOf ks kz
     grows-all none o ks e kz h = first-same (h .1)
     grows-all (more t ts) o ks e kz h = first-trans (grows t _ _ _ _ (h .2)) (grows-all ts _ _ _ _ (h .3))
 
-    pub grows-members : (ms : Members) (o : ℕ) (ks : Keys) (e : ℕ) (kz : Keys) → MembersAre doc ms o ks e kz → FirstOf ks kz
+    pub grows-members : (ms : Members) (o : ℕ) (ks : Keys) (e : ℕ) (kz : Keys) → MembersAre doc names ms o ks e kz → FirstOf ks kz
     grows-members end o ks e kz h = first-same (h .1)
     grows-members (member k t ms) o ks e kz h = first-trans (key-grows (h .4)) (first-trans (grows t _ _ _ _ (h .5)) (grows-members ms _ _ _ _ (h .6)))
 
@@ -111,13 +112,14 @@ inside-at doc [] i j h = omega arith
 inside-at doc (k ∷ ks) i zero h = i .0
 inside-at doc (k ∷ ks) i (suc j) h = inside-at doc ks (i .1) j (omega arith)
 
-module _ (doc : List ℕ) where
-  key-inside : {t : List ℕ} {o : ℕ} {ks : Keys} {e : ℕ} {kz : Keys} → KeyIs doc t o ks e kz → Inside doc ks → Inside doc kz
+module _ (doc : List ℕ) (names : Names) where
+  key-inside : {t : List ℕ} {o : ℕ} {ks : Keys} {e : ℕ} {kz : Keys} → KeyIs doc names t o ks e kz → Inside doc ks → Inside doc kz
   key-inside {ks = ks} (asText x n b s ix y f p q) i = rw q (inside-snoc doc ks _ i (y .inside))
   key-inside (asBack x j s ix h y q) i = rw q i
+  key-inside (asGlobal x j s ix h y q) i = rw q i
 
   mutual
-    pub keys-inside : (t : Tree) (o : ℕ) (ks : Keys) (e : ℕ) (kz : Keys) → ValueIs doc t o ks e kz → Inside doc ks → Inside doc kz
+    pub keys-inside : (t : Tree) (o : ℕ) (ks : Keys) (e : ℕ) (kz : Keys) → ValueIs doc names t o ks e kz → Inside doc ks → Inside doc kz
     keys-inside null o ks e kz h i = rw (h .2) i
     keys-inside (bool b) o ks e kz h i = rw (h .2) i
     keys-inside (num s m) o ks e kz h i = rw (h .1) i
@@ -125,10 +127,10 @@ module _ (doc : List ℕ) where
     keys-inside (arr ts) o ks e kz h i = keys-inside-all ts _ _ _ _ (h .3) i
     keys-inside (obj ms) o ks e kz h i = keys-inside-members ms _ _ _ _ (h .3) i
 
-    keys-inside-all : (ts : Trees) (o : ℕ) (ks : Keys) (e : ℕ) (kz : Keys) → ValuesAre doc ts o ks e kz → Inside doc ks → Inside doc kz
+    keys-inside-all : (ts : Trees) (o : ℕ) (ks : Keys) (e : ℕ) (kz : Keys) → ValuesAre doc names ts o ks e kz → Inside doc ks → Inside doc kz
     keys-inside-all none o ks e kz h i = rw (h .1) i
     keys-inside-all (more t ts) o ks e kz h i = keys-inside-all ts _ _ _ _ (h .3) (keys-inside t _ _ _ _ (h .2) i)
 
-    keys-inside-members : (ms : Members) (o : ℕ) (ks : Keys) (e : ℕ) (kz : Keys) → MembersAre doc ms o ks e kz → Inside doc ks → Inside doc kz
+    keys-inside-members : (ms : Members) (o : ℕ) (ks : Keys) (e : ℕ) (kz : Keys) → MembersAre doc names ms o ks e kz → Inside doc ks → Inside doc kz
     keys-inside-members end o ks e kz h i = rw (h .1) i
     keys-inside-members (member k t ms) o ks e kz h i = keys-inside-members ms _ _ _ _ (h .6) (keys-inside t _ _ _ _ (h .5) (key-inside (h .4) i))

@@ -1,6 +1,7 @@
 pub mod ByteTables
 pub mod Readers
 pub mod Keys
+pub mod KeyList
 pub mod Sound
 pub mod Walk
 pub mod Complete

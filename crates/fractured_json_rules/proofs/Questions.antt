@@ -12,16 +12,17 @@ use Rattle.json.specs.Tree.{Tree, null, bool, num, str, arr, obj, Trees, Member
 use Rattle.json.proofs.Bytes.{number-small}
 use Rattle.json.proofs.Reading.{then, pass, need-yes}
 use Rattle.fractured_json_rules.specs.ByteTables.{bytes, formOf}
-use Rattle.fractured_json_rules.specs.Meaning.{afterLength, TextIs, NumberIs, asTiny, asInt, asFloat, Keys, ValueIs, Headed}
+use Rattle.fractured_json_rules.specs.Meaning.{afterLength, TextIs, NumberIs, asTiny, asInt, asFloat, Names, Lists, Keys, ValueIs, Headed}
 use Rattle.fractured_json_rules.specs.Verdict.{numeral}
 use Rattle.fractured_json_rules.specs.Questions.{opening, typeAt, kindBy, extended, tinyBits, numberBy, aString, anObject, anArray, wantedBy, wantedAt, stringAt}
 use Rattle.fractured_json_rules.specs.Answers.{kindOf, valueBy, valueOf}
+use Rattle.fractured_json_rules.proofs.KeyList.{list-is}
 use Rattle.fractured_json_rules.proofs.Nodes.{value-form}
 use Rattle.fractured_json_rules.proofs.Numbers.{int-value, tiny-value, tiny-byte}
 use Rattle.fractured_json_rules.proofs.Readers.{header-is, byte-is, payload-is, length-is, text-is}
 
-module _ (doc : List ℕ) where
-  value-inside : (u : Tree) (o : ℕ) (ks : Keys) (e : ℕ) (kz : Keys) → ValueIs doc u o ks e kz → o < length doc
+module _ (doc : List ℕ) (names : Names) where
+  value-inside : (u : Tree) (o : ℕ) (ks : Keys) (e : ℕ) (kz : Keys) → ValueIs doc names u o ks e kz → o < length doc
   value-inside null o ks e kz h = h .0 .inside
   value-inside (bool b) o ks e kz h = h .0 .inside
   value-inside (num s m) o ks e kz h = number-inside (h .0)
@@ -37,15 +38,15 @@ module _ (doc : List ℕ) where
   text-length : (t : List ℕ) (o n : ℕ) → TextIs doc o n t → length t ≡ n
   text-length t o n h = let fits = h .inside in rw (h .same, length-take, length-drop) (omega arith)
 
-  pub opening-is : Headed doc → (o : ℕ) → 3 ≤ o → ask (opening doc o) ≡ answers tt
+  pub opening-is : (list : List ℕ) → Lists list names → Headed doc → (o : ℕ) → 3 ≤ o → ask (opening doc list o) ≡ answers tt
   unfolding opening
-  opening-is h o b = then _ _ tt (header-is doc tt h) ∙ need-yes _ _ _ tt (le→leb _ _ b)
+  opening-is list l h o b = then _ _ tt (list-is list names tt l) ∙ (then _ _ tt (header-is doc tt h) ∙ need-yes _ _ _ tt (le→leb _ _ b))
 
-  -- every question but the end begins so
-  pub asked : Headed doc → {A : Type 0} (o : ℕ) (by : ℕ → Reading (Unit {0}) A) (u : Tree) (ks : Keys) (e : ℕ) (kz : Keys) → 3 ≤ o → ValueIs doc u o ks e kz
-      → ask (typeAt doc o >>= by) ≡ ask (by (getD doc o 0))
+  -- every question but the end and the key begins so
+  pub asked : (list : List ℕ) → Lists list names → Headed doc → {A : Type 0} (o : ℕ) (by : ℕ → Reading (Unit {0}) A) (u : Tree) (ks : Keys) (e : ℕ) (kz : Keys) → 3 ≤ o → ValueIs doc names u o ks e kz
+      → ask (typeAt doc list o >>= by) ≡ ask (by (getD doc o 0))
   unfolding typeAt
-  asked h o by u ks e kz b v = then _ _ tt (then _ _ tt (opening-is h o b) ∙ byte-is doc o o tt (value-inside u o ks e kz v))
+  asked list l h o by u ks e kz b v = then _ _ tt (then _ _ tt (opening-is list l h o b) ∙ byte-is doc o o tt (value-inside u o ks e kz v))
 
   -- ---- its kind
 
@@ -55,7 +56,7 @@ module _ (doc : List ℕ) where
   number-kind s m o e (asInt g w st i p q) = rw (st .form-is)
   number-kind s m o e (asFloat f w st i n p q) = rw (st .form-is)
 
-  pub kind-is : (u : Tree) (o : ℕ) (ks : Keys) (e : ℕ) (kz : Keys) → ValueIs doc u o ks e kz → ask (kindBy doc o (formOf (getD doc o 0))) ≡ answers (kindOf u)
+  pub kind-is : (u : Tree) (o : ℕ) (ks : Keys) (e : ℕ) (kz : Keys) → ValueIs doc names u o ks e kz → ask (kindBy doc o (formOf (getD doc o 0))) ≡ answers (kindOf u)
   unfolding kindBy kindOf
   kind-is null o ks e kz h = rw (h .0 .form-is)
   kind-is (bool false) o ks e kz h = rw (h .0 .form-is)
@@ -89,53 +90,53 @@ module _ (doc : List ℕ) where
 
   -- ---- the wrong kind of number
 
-  pub no-number : (u : Tree) (o : ℕ) (ks : Keys) (e : ℕ) (kz : Keys) → ValueIs doc u o ks e kz → NoNumber u → ask (numberBy doc o (getD doc o 0) (formOf (getD doc o 0))) ≡ refuses 21 o
+  pub no-number : (u : Tree) (o : ℕ) (ks : Keys) (e : ℕ) (kz : Keys) → ValueIs doc names u o ks e kz → NoNumber u → ask (numberBy doc o (getD doc o 0) (formOf (getD doc o 0))) ≡ refuses 21 o
   unfolding numberBy
   no-number u o ks e kz v n =
-      value-form doc (λ f. ask (numberBy doc o (getD doc o 0) f) ≡ refuses 21 o) u o ks e kz v
+      value-form doc names (λ f. ask (numberBy doc o (getD doc o 0) f) ≡ refuses 21 o) u o ks e kz v
       (λ _. refl) (λ b _. refl) (λ s m q. absurd (n s m q)) (λ t x _. refl) (λ ts x _. refl) (λ ms x _. refl)
 
   -- ---- the length of a string, an array and an object, and the wrong kind
 
-  module _ (h : Headed doc) (o : ℕ) (b : 3 ≤ o) where
-    string-length : (t : List ℕ) (ks : Keys) (e : ℕ) (kz : Keys) (v : ValueIs doc (str t) o ks e kz) → ask (wantedAt doc o aString) ≡ answers (numeral (v .1) (afterLength o (v .0)))
+  module _ (list : List ℕ) (l : Lists list names) (h : Headed doc) (o : ℕ) (b : 3 ≤ o) where
+    string-length : (t : List ℕ) (ks : Keys) (e : ℕ) (kz : Keys) (v : ValueIs doc names (str t) o ks e kz) → ask (wantedAt doc list o aString) ≡ answers (numeral (v .1) (afterLength o (v .0)))
     unfolding wantedAt wantedBy
-    string-length t ks e kz v = asked h o _ (str t) ks e kz b v ∙ rw (v .2 .form-is) (length-is doc o (v .0) (v .1) tt (v .3))
+    string-length t ks e kz v = asked list l h o _ (str t) ks e kz b v ∙ rw (v .2 .form-is) (length-is doc o (v .0) (v .1) tt (v .3))
 
-    pub array-length : (ts : Trees) (ks : Keys) (e : ℕ) (kz : Keys) (v : ValueIs doc (arr ts) o ks e kz) → ask (wantedAt doc o anArray) ≡ answers (numeral (size ts) (afterLength o (v .0)))
+    pub array-length : (ts : Trees) (ks : Keys) (e : ℕ) (kz : Keys) (v : ValueIs doc names (arr ts) o ks e kz) → ask (wantedAt doc list o anArray) ≡ answers (numeral (size ts) (afterLength o (v .0)))
     unfolding wantedAt wantedBy
-    array-length ts ks e kz v = asked h o _ (arr ts) ks e kz b v ∙ rw (v .1 .form-is) (length-is doc o (v .0) (size ts) tt (v .2))
+    array-length ts ks e kz v = asked list l h o _ (arr ts) ks e kz b v ∙ rw (v .1 .form-is) (length-is doc o (v .0) (size ts) tt (v .2))
 
-    pub object-length : (ms : Members) (ks : Keys) (e : ℕ) (kz : Keys) (v : ValueIs doc (obj ms) o ks e kz) → ask (wantedAt doc o anObject) ≡ answers (numeral (sizem ms) (afterLength o (v .0)))
+    pub object-length : (ms : Members) (ks : Keys) (e : ℕ) (kz : Keys) (v : ValueIs doc names (obj ms) o ks e kz) → ask (wantedAt doc list o anObject) ≡ answers (numeral (sizem ms) (afterLength o (v .0)))
     unfolding wantedAt wantedBy
-    object-length ms ks e kz v = asked h o _ (obj ms) ks e kz b v ∙ rw (v .1 .form-is) (length-is doc o (v .0) (sizem ms) tt (v .2))
+    object-length ms ks e kz v = asked list l h o _ (obj ms) ks e kz b v ∙ rw (v .1 .form-is) (length-is doc o (v .0) (sizem ms) tt (v .2))
 
-    module _ (u : Tree) (ks : Keys) (e : ℕ) (kz : Keys) (v : ValueIs doc u o ks e kz) where
-      pub no-string : NoString u → ask (wantedAt doc o aString) ≡ refuses 21 o
+    module _ (u : Tree) (ks : Keys) (e : ℕ) (kz : Keys) (v : ValueIs doc names u o ks e kz) where
+      pub no-string : NoString u → ask (wantedAt doc list o aString) ≡ refuses 21 o
       unfolding wantedAt wantedBy
       no-string n =
-          asked h o _ u ks e kz b v
-          ∙ value-form doc (λ f. ask (wantedBy doc o f aString) ≡ refuses 21 o) u o ks e kz v
+          asked list l h o _ u ks e kz b v
+          ∙ value-form doc names (λ f. ask (wantedBy doc o f aString) ≡ refuses 21 o) u o ks e kz v
           (λ _. refl) (λ b _. refl) (λ s m _. (λ b. refl, λ g w. refl, λ f w. refl)) (λ t x q. absurd (n t q)) (λ ts x _. refl) (λ ms x _. refl)
 
-      pub no-array : NoArray u → ask (wantedAt doc o anArray) ≡ refuses 21 o
+      pub no-array : NoArray u → ask (wantedAt doc list o anArray) ≡ refuses 21 o
       unfolding wantedAt wantedBy
       no-array n =
-          asked h o _ u ks e kz b v
-          ∙ value-form doc (λ f. ask (wantedBy doc o f anArray) ≡ refuses 21 o) u o ks e kz v
+          asked list l h o _ u ks e kz b v
+          ∙ value-form doc names (λ f. ask (wantedBy doc o f anArray) ≡ refuses 21 o) u o ks e kz v
           (λ _. refl) (λ b _. refl) (λ s m _. (λ b. refl, λ g w. refl, λ f w. refl)) (λ t x _. refl) (λ ts x q. absurd (n ts q)) (λ ms x _. refl)
 
-      pub no-object : NoObject u → ask (wantedAt doc o anObject) ≡ refuses 21 o
+      pub no-object : NoObject u → ask (wantedAt doc list o anObject) ≡ refuses 21 o
       unfolding wantedAt wantedBy
       no-object n =
-          asked h o _ u ks e kz b v
-          ∙ value-form doc (λ f. ask (wantedBy doc o f anObject) ≡ refuses 21 o) u o ks e kz v
+          asked list l h o _ u ks e kz b v
+          ∙ value-form doc names (λ f. ask (wantedBy doc o f anObject) ≡ refuses 21 o) u o ks e kz v
           (λ _. refl) (λ b _. refl) (λ s m _. (λ b. refl, λ g w. refl, λ f w. refl)) (λ t x _. refl) (λ ts x _. refl) (λ ms x q. absurd (n ms q))
 
     -- ---- its string
 
-    pub string-is : (t : List ℕ) (ks : Keys) (e : ℕ) (kz : Keys) → ValueIs doc (str t) o ks e kz
-        → (p : ℕ) × (ask (stringAt doc o) ≡ answers (record { place = p; len = length t })) × (part doc p (length t) ≡ t) × (p + length t ≡ e)
+    pub string-is : (t : List ℕ) (ks : Keys) (e : ℕ) (kz : Keys) → ValueIs doc names (str t) o ks e kz
+        → (p : ℕ) × (ask (stringAt doc list o) ≡ answers (record { place = p; len = length t })) × (part doc p (length t) ≡ t) × (p + length t ≡ e)
     unfolding stringAt
     string-is t ks e kz v =
         let len = text-length t _ _ (v .4) in (

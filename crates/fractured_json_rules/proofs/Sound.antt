@@ -17,31 +17,32 @@ use Rattle.json.specs.Tree as Tree
 use Rattle.json.proofs.Reading.{halt≢done, done-answer, done-kept, step, passed}
 use Rattle.fractured_json_rules.specs.ByteTables.{Width, bytes, Form, fNull, fBool, fInt, fFloat, fTiny, fString, fObject, fArray, fReserved, formOf}
 use Rattle.fractured_json_rules.specs.ByteTables.{KeyForm, immediate, backReference, globalIndex, kReserved, keyFormOf}
-use Rattle.fractured_json_rules.specs.Meaning.{afterLength, intTree, tinyTree, NumberIs, asTiny, asInt, asFloat, noKey, Keys, keyText, KeyIs, asText}
-use Rattle.fractured_json_rules.specs.Meaning.{asBack, ValueIs, ValuesAre, MembersAre, Headed, Means}
-use Rattle.fractured_json_rules.specs.Verdict.{Numeral, numeral, textAt, inTurn, member, valueBy, value, keyBy, newKey, oldKey, checkKey, check, verdict}
+use Rattle.fractured_json_rules.specs.Meaning.{afterLength, intTree, tinyTree, NumberIs, asTiny, asInt, asFloat, Names, noKey, Keys, keyText, KeyIs, asText}
+use Rattle.fractured_json_rules.specs.Meaning.{asBack, asGlobal, ValueIs, ValuesAre, MembersAre, Lists, Headed, Means}
+use Rattle.fractured_json_rules.specs.Verdict.{Numeral, numeral, textAt, inTurn, member, valueBy, value, keyBy, newKey, oldKey, listedKey, checkKey, check, verdict}
 use Rattle.fractured_json_rules.proofs.Keys.{met-fresh}
+use Rattle.fractured_json_rules.proofs.KeyList.{list-step}
 use Rattle.fractured_json_rules.proofs.Readers.{kept-is, keep-is, header-step, last-test, byte-step, payload-step, length-step, text-step, key-number-step}
 
-record FoundKey (doc : List ℕ) (o : ℕ) (ks : Keys) (e : ℕ) (kz : Keys) : Type 0 where
+record FoundKey (doc : List ℕ) (names : Names) (o : ℕ) (ks : Keys) (e : ℕ) (kz : Keys) : Type 0 where
   text : List ℕ
-  here : KeyIs doc text o ks e kz
+  here : KeyIs doc names text o ks e kz
 
-record FoundValue (doc : List ℕ) (l o : ℕ) (ks : Keys) (e : ℕ) (kz : Keys) : Type 0 where
+record FoundValue (doc : List ℕ) (names : Names) (l o : ℕ) (ks : Keys) (e : ℕ) (kz : Keys) : Type 0 where
   tree : Tree
-  here : ValueIs doc tree o ks e kz
+  here : ValueIs doc names tree o ks e kz
   shallow : depth tree ≤ l
 
-record FoundValues (doc : List ℕ) (l n o : ℕ) (ks : Keys) (e : ℕ) (kz : Keys) : Type 0 where
+record FoundValues (doc : List ℕ) (names : Names) (l n o : ℕ) (ks : Keys) (e : ℕ) (kz : Keys) : Type 0 where
   trees : Trees
   count : size trees ≡ n
-  here : ValuesAre doc trees o ks e kz
+  here : ValuesAre doc names trees o ks e kz
   shallow : depths trees ≤ l
 
-record FoundMembers (doc : List ℕ) (l n o : ℕ) (ks : Keys) (e : ℕ) (kz : Keys) : Type 0 where
+record FoundMembers (doc : List ℕ) (names : Names) (l n o : ℕ) (ks : Keys) (e : ℕ) (kz : Keys) : Type 0 where
   members : Members
   count : sizem members ≡ n
-  here : MembersAre doc members o ks e kz
+  here : MembersAre doc names members o ks e kz
   shallow : depthm members ≤ l
 
 -- ---- a number's tree is a number
@@ -67,12 +68,12 @@ float-number : (f : Float) (n : ℕ) → IsNumber (floatTree f n)
 unfolding floatTree
 float-number f n = (_, _, refl)
 
-module _ (room : ℕ) (doc : List ℕ) where
+module _ (room : ℕ) (doc : List ℕ) (names : Names) where
   -- ---- keys
 
-  key-by : (o : ℕ) (ks : Keys) {e : ℕ} {kz : Keys} → o < length doc → (k : KeyForm) → keyFormOf (getD doc o 0) ≡ k → keyBy doc o (newKey room doc o) (oldKey o) k ks ≡ done e kz
-      → FoundKey doc o ks e kz
-  unfolding keyBy newKey oldKey
+  key-by : (o : ℕ) (ks : Keys) {e : ℕ} {kz : Keys} → o < length doc → (k : KeyForm) → keyFormOf (getD doc o 0) ≡ k → keyBy doc o (newKey room doc o) (oldKey o) (listedKey (length names) o) k ks ≡ done e kz
+      → FoundKey doc names o ks e kz
+  unfolding keyBy newKey oldKey listedKey
   key-by o ks i (immediate x) form e =
       let (n, b, ix, e0) = key-number-step doc o x _ ks e in
       let (fits, e1) = text-step doc o (numeral n b) _ ks e0 in
@@ -92,17 +93,24 @@ module _ (room : ℕ) (doc : List ℕ) where
         text = keyText doc (getD ks n noKey);
         here = asBack x n (record { inside = i; form-is = form }) (rw past at ix) (ltb→lt _ _ (s1 .test)) refl (sym (done-kept (s1 .rest)));
       }
-  key-by o ks i (globalIndex x) form e = let (n, b, ix, e0) = key-number-step doc o x _ ks e in absurd (halt≢done e0)
+  key-by o ks i (globalIndex x) form e =
+      let (n, b, ix, e0) = key-number-step doc o x _ ks e in
+      let s1 = passed _ _ _ _ ks e0 in
+      let past = done-answer (s1 .rest) in
+      record {
+        text = getD names n [];
+        here = asGlobal x n (record { inside = i; form-is = form }) (rw past at ix) (ltb→lt _ _ (s1 .test)) refl (sym (done-kept (s1 .rest)));
+      }
   key-by o ks i kReserved form e = absurd (halt≢done e)
 
-  key-sound : (o : ℕ) (ks : Keys) {e : ℕ} {kz : Keys} → checkKey room doc o ks ≡ done e kz → FoundKey doc o ks e kz
+  key-sound : (o : ℕ) (ks : Keys) {e : ℕ} {kz : Keys} → checkKey room doc (length names) o ks ≡ done e kz → FoundKey doc names o ks e kz
   unfolding checkKey
   key-sound o ks e = let (i, e0) = byte-step doc o o _ ks e in key-by o ks i _ refl e0
 
   -- ---- things in a row
 
-  values-sound : (f : ℕ → Reading Keys ℕ) (l : ℕ) → ((o : ℕ) (ks : Keys) (e : ℕ) (kz : Keys) → f o ks ≡ done e kz → FoundValue doc l o ks e kz)
-      → (n o : ℕ) (ks : Keys) {e : ℕ} {kz : Keys} → inTurn f n o ks ≡ done e kz → FoundValues doc l n o ks e kz
+  values-sound : (f : ℕ → Reading Keys ℕ) (l : ℕ) → ((o : ℕ) (ks : Keys) (e : ℕ) (kz : Keys) → f o ks ≡ done e kz → FoundValue doc names l o ks e kz)
+      → (n o : ℕ) (ks : Keys) {e : ℕ} {kz : Keys} → inTurn f n o ks ≡ done e kz → FoundValues doc names l n o ks e kz
   unfolding inTurn
   values-sound f l ih zero o ks e = record { trees = none; count = refl; here = (sym (done-answer e), sym (done-kept e)); shallow = omega arith }
   values-sound f l ih (suc n) o ks e =
@@ -111,8 +119,8 @@ module _ (room : ℕ) (doc : List ℕ) where
       let ts = values-sound f l ih n (s .got) (s .mid) (s .rest) in
       record { trees = more (t .tree) (ts .trees); count = ap suc (ts .count); here = (s .got, s .mid, t .here, ts .here); shallow = max-le (t .shallow) (ts .shallow) }
 
-  members-sound : (f : ℕ → Reading Keys ℕ) (l : ℕ) → ((o : ℕ) (ks : Keys) (e : ℕ) (kz : Keys) → f o ks ≡ done e kz → FoundValue doc l o ks e kz)
-      → (n o : ℕ) (ks : Keys) {e : ℕ} {kz : Keys} → inTurn (member (checkKey room doc) f) n o ks ≡ done e kz → FoundMembers doc l n o ks e kz
+  members-sound : (f : ℕ → Reading Keys ℕ) (l : ℕ) → ((o : ℕ) (ks : Keys) (e : ℕ) (kz : Keys) → f o ks ≡ done e kz → FoundValue doc names l o ks e kz)
+      → (n o : ℕ) (ks : Keys) {e : ℕ} {kz : Keys} → inTurn (member (checkKey room doc (length names)) f) n o ks ≡ done e kz → FoundMembers doc names l n o ks e kz
   unfolding inTurn member
   members-sound f l ih zero o ks e = record { members = end; count = refl; here = (sym (done-answer e), sym (done-kept e)); shallow = omega arith }
   members-sound f l ih (suc n) o ks e =
@@ -130,13 +138,13 @@ module _ (room : ℕ) (doc : List ℕ) where
 
   -- ---- values
 
-  number-found : (l o : ℕ) (ks : Keys) {e : ℕ} {kz : Keys} (t : Tree) → NumberIs doc t o e → IsNumber t → kz ≡ ks → FoundValue doc l o ks e kz
+  number-found : (l o : ℕ) (ks : Keys) {e : ℕ} {kz : Keys} (t : Tree) → NumberIs doc t o e → IsNumber t → kz ≡ ks → FoundValue doc names l o ks e kz
   number-found l o ks t h n q = record { tree = num (n .0) (n .1); here = (rw (n .2) at h, q); shallow = omega arith }
 
   value-by : (l o : ℕ) (ks : Keys) {e : ℕ} {kz : Keys} (array object : Numeral → Reading Keys ℕ)
-      → ((n : Numeral) → array n ks ≡ done e kz → (m : ℕ) × (l ≡ suc m) × FoundValues doc m (n .is) (n .past) ks e kz)
-      → ((n : Numeral) → object n ks ≡ done e kz → (m : ℕ) × (l ≡ suc m) × FoundMembers doc m (n .is) (n .past) ks e kz)
-      → o < length doc → (k : Form) → formOf (getD doc o 0) ≡ k → valueBy doc o array object k ks ≡ done e kz → FoundValue doc l o ks e kz
+      → ((n : Numeral) → array n ks ≡ done e kz → (m : ℕ) × (l ≡ suc m) × FoundValues doc names m (n .is) (n .past) ks e kz)
+      → ((n : Numeral) → object n ks ≡ done e kz → (m : ℕ) × (l ≡ suc m) × FoundMembers doc names m (n .is) (n .past) ks e kz)
+      → o < length doc → (k : Form) → formOf (getD doc o 0) ≡ k → valueBy doc o array object k ks ≡ done e kz → FoundValue doc names l o ks e kz
   unfolding valueBy textAt
   value-by l o ks array object ha ho i fNull form e =
       record { tree = null; here = (record { inside = i; form-is = form }, sym (done-answer e), sym (done-kept e)); shallow = omega arith }
@@ -169,7 +177,7 @@ module _ (room : ℕ) (doc : List ℕ) where
       record { tree = arr (f .trees); here = (x, record { inside = i; form-is = form }, rw (f .count) len, f .here); shallow = rw le (omega arith) }
   value-by l o ks array object ha ho i fReserved form e = absurd (halt≢done e)
 
-  value-sound : (l o : ℕ) (ks : Keys) (e : ℕ) (kz : Keys) → value (checkKey room doc) l doc o ks ≡ done e kz → FoundValue doc l o ks e kz
+  value-sound : (l o : ℕ) (ks : Keys) (e : ℕ) (kz : Keys) → value (checkKey room doc (length names)) l doc o ks ≡ done e kz → FoundValue doc names l o ks e kz
   unfolding value
   value-sound zero o ks e kz h =
       let (i, r) = byte-step doc o o _ ks h in
@@ -177,20 +185,24 @@ module _ (room : ℕ) (doc : List ℕ) where
   value-sound (suc l) o ks e kz h =
       let (i, r) = byte-step doc o o _ ks h in
       value-by (suc l) o ks _ _
-      (λ n q. (l, refl, values-sound (value (checkKey room doc) l doc) l (value-sound l) (n .is) (n .past) ks q))
-      (λ n q. (l, refl, members-sound (value (checkKey room doc) l doc) l (value-sound l) (n .is) (n .past) ks q))
+      (λ n q. (l, refl, values-sound (value (checkKey room doc (length names)) l doc) l (value-sound l) (n .is) (n .past) ks q))
+      (λ n q. (l, refl, members-sound (value (checkKey room doc (length names)) l doc) l (value-sound l) (n .is) (n .past) ks q))
       i _ refl r
 
-  -- ---- the document
+-- ---- the document
 
-  found-means : Headed doc → (e : ℕ) (kz : Keys) → FoundValue doc deepest 3 [] e kz → e ≡ length doc → (t : Tree) × (m : Means doc t) × (m .keys ≡ kz)
-  found-means o e kz f past = (f .tree, record { headed = o; keys = kz; root = rw past at (f .here); nested = f .shallow }, refl)
+module _ (room : ℕ) (doc list : List ℕ) where
+  found-means : (names : Names) → Lists list names → Headed doc → (e : ℕ) (kz : Keys) → FoundValue doc names deepest 3 [] e kz → e ≡ length doc
+      → (t : Tree) × (m : Means doc list t) × (m .keys ≡ kz)
+  found-means names l o e kz f past = (f .tree, record { names = names; listed = l; headed = o; keys = kz; root = rw past at (f .here); nested = f .shallow }, refl)
 
-  pub sound : (kz : Keys) → verdict room doc ≡ done tt kz → (t : Tree) × (m : Means doc t) × (m .keys ≡ kz)
+  pub sound : (kz : Keys) → verdict room doc list ≡ done tt kz → (t : Tree) × (m : Means doc list t) × (m .keys ≡ kz)
   unfolding check
   sound kz e =
-      let (o, e0) = header-step doc _ [] e in
-      let v = step _ _ [] e0 in
+      let ((names, l), e0) = list-step list _ [] e in
+      let (o, e1) = header-step doc _ [] e0 in
+      let v = step _ _ [] e1 in
       let (whole, same) = last-test _ _ _ (v .mid) (v .rest) in
-      let (t, m, k) = found-means o (v .got) (v .mid) (value-sound deepest 3 [] (v .got) (v .mid) (v .first)) (eqb→eq _ _ whole) in
+      let walked : value (checkKey room doc (length names)) deepest doc 3 [] ≡ done (v .got) (v .mid) = rw (l .count) (v .first) in
+      let (t, m, k) = found-means names l o (v .got) (v .mid) (value-sound room doc names deepest 3 [] (v .got) (v .mid) walked) (eqb→eq _ _ whole) in
       (t, m, k ∙ same)

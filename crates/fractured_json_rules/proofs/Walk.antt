@@ -9,14 +9,14 @@ use Rattle.json.specs.Tree.{Tree, null, bool, num, str, arr, obj, Trees, none, 
 use Rattle.json.specs.Tree as Tree
 use Rattle.json.proofs.Reading.{then, pass}
 use Rattle.fractured_json_rules.specs.ByteTables.{bytes, Form, fNull, fBool, fInt, fFloat, fTiny, fString}
-use Rattle.fractured_json_rules.specs.Meaning.{Starts, afterLength, NumberIs, asTiny, asInt, asFloat, Keys, KeyIs, ValueIs, ValuesAre, MembersAre}
+use Rattle.fractured_json_rules.specs.Meaning.{Starts, afterLength, Names, NumberIs, asTiny, asInt, asFloat, Keys, KeyIs, ValueIs, ValuesAre, MembersAre}
 use Rattle.fractured_json_rules.specs.Verdict.{Numeral, inTurn, member, valueBy, value}
 use Rattle.fractured_json_rules.specs.Leads.{FirstOf}
 use Rattle.fractured_json_rules.proofs.Keys.{first-trans, grows, grows-all, grows-members}
 use Rattle.fractured_json_rules.proofs.Readers.{byte-is, payload-is, length-is, text-is}
 
-module _ {S : Type 0} (doc : List ℕ) (key : ℕ → Reading S ℕ) (tab : Keys) (at : Keys → S)
-    (reads : (t : List ℕ) (o : ℕ) (ks : Keys) (e : ℕ) (kz : Keys) → KeyIs doc t o ks e kz → FirstOf kz tab → key o (at ks) ≡ done e (at kz))
+module _ {S : Type 0} (doc : List ℕ) (names : Names) (key : ℕ → Reading S ℕ) (tab : Keys) (at : Keys → S)
+    (reads : (t : List ℕ) (o : ℕ) (ks : Keys) (e : ℕ) (kz : Keys) → KeyIs doc names t o ks e kz → FirstOf kz tab → key o (at ks) ≡ done e (at kz))
   where
     -- a value of a form whose reading does not turn on the levels
     plain : (l o : ℕ) (s : S) (k : Form) (r : Outcome S ℕ) → Starts doc o k → ((array object : Numeral → Reading S ℕ) → valueBy doc o array object k s ≡ r) → value key l doc o s ≡ r
@@ -34,7 +34,7 @@ module _ {S : Type 0} (doc : List ℕ) (key : ℕ → Reading S ℕ) (tab : Keys
     mutual
       unfolding value valueBy inTurn member
 
-      pub walks : (t : Tree) (l o : ℕ) (ks : Keys) (e : ℕ) (kz : Keys) → ValueIs doc t o ks e kz → FirstOf kz tab → depth t ≤ l → value key l doc o (at ks) ≡ done e (at kz)
+      pub walks : (t : Tree) (l o : ℕ) (ks : Keys) (e : ℕ) (kz : Keys) → ValueIs doc names t o ks e kz → FirstOf kz tab → depth t ≤ l → value key l doc o (at ks) ≡ done e (at kz)
       walks null l o ks e kz h g d = rw (h .1, h .2) (plain l o (at ks) fNull _ (h .0) (λ array object. refl))
       walks (bool b) l o ks e kz h g d = rw (h .1, h .2) (plain l o (at ks) (fBool b) _ (h .0) (λ array object. refl))
       walks (num s m) l o ks e kz h g d = rw (h .1) (number-walks (num s m) l o (at ks) e (h .0))
@@ -50,18 +50,18 @@ module _ {S : Type 0} (doc : List ℕ) (key : ℕ → Reading S ℕ) (tab : Keys
           then _ _ (at ks) (byte-is doc o o (at ks) (h .1 .inside)) ∙ rw (h .1 .form-is)
           (then _ _ (at ks) (length-is doc o (h .0) (sizem ms) (at ks) (h .2)) ∙ walks-members ms l (afterLength o (h .0)) ks e kz (h .3) g (omega arith))
 
-      walks-all : (ts : Trees) (l o : ℕ) (ks : Keys) (e : ℕ) (kz : Keys) → ValuesAre doc ts o ks e kz → FirstOf kz tab → depths ts ≤ l
+      walks-all : (ts : Trees) (l o : ℕ) (ks : Keys) (e : ℕ) (kz : Keys) → ValuesAre doc names ts o ks e kz → FirstOf kz tab → depths ts ≤ l
           → inTurn (value key l doc) (size ts) o (at ks) ≡ done e (at kz)
       walks-all none l o ks e kz h g d = rw (h .0, h .1)
       walks-all (more t ts) l o ks e kz h g d =
-          then _ _ (at ks) (walks t l o ks (h .0) (h .1) (h .2) (first-trans (grows-all doc ts _ _ _ _ (h .3)) g) (omega arith))
+          then _ _ (at ks) (walks t l o ks (h .0) (h .1) (h .2) (first-trans (grows-all doc names ts _ _ _ _ (h .3)) g) (omega arith))
           ∙ walks-all ts l (h .0) (h .1) e kz (h .3) g (omega arith)
 
-      walks-members : (ms : Members) (l o : ℕ) (ks : Keys) (e : ℕ) (kz : Keys) → MembersAre doc ms o ks e kz → FirstOf kz tab → depthm ms ≤ l
+      walks-members : (ms : Members) (l o : ℕ) (ks : Keys) (e : ℕ) (kz : Keys) → MembersAre doc names ms o ks e kz → FirstOf kz tab → depthm ms ≤ l
           → inTurn (member key (value key l doc)) (sizem ms) o (at ks) ≡ done e (at kz)
       walks-members end l o ks e kz h g d = rw (h .0, h .1)
       walks-members (Tree.member k t ms) l o ks e kz h g d =
-          let g2 = first-trans (grows-members doc ms _ _ _ _ (h .6)) g in
-          let g1 = first-trans (grows doc t _ _ _ _ (h .5)) g2 in
+          let g2 = first-trans (grows-members doc names ms _ _ _ _ (h .6)) g in
+          let g1 = first-trans (grows doc names t _ _ _ _ (h .5)) g2 in
           then _ _ (at ks) (then _ _ (at ks) (reads k o ks (h .0) (h .1) (h .4) g1) ∙ walks t l (h .0) (h .1) (h .2) (h .3) (h .5) g2 (omega arith))
           ∙ walks-members ms l (h .2) (h .3) e kz (h .6) g (omega arith)

@@ -45,6 +45,10 @@ keyList list = do
   need (leb 3 (length list)) 52 1
   namesFrom list (countIn list) 3 []
 
+-- the list without a name
+abbrev pub noNames : List ℕ
+noNames = 0 ∷ 0 ∷ 0 ∷ []
+
 -- ---- name j
 
 -- n steps from o

@@ -9,6 +9,7 @@ use Rattle.json.specs.Choose.{choose}
 use Rattle.json.specs.Limits.{longestLine, benchKeys}
 use Rattle.json.specs.Reading.{Asked}
 use Rattle.binary_json_rules.specs.Verdict as Binary
+use Rattle.fractured_json_rules.specs.KeyList.{noNames}
 use Rattle.fractured_json_rules.specs.Verdict as Fractured
 
 -- ---- hexadecimal of either case, two characters a byte
@@ -50,9 +51,9 @@ pub data Answer : Type 0 where
 unfoldable pub isFractured : List ℕ → Bool
 isFractured doc = choose (eqb (getD doc 0 0) 0x46) (eqb (getD doc 1 0) 0x4A) false
 
--- "FJ gets a table of 4,096 keys"; what is kept of the check is its verdict
+-- "FJ gets a table of 4,096 keys", and a key list without a name; what is kept of the check is its verdict
 unfoldable pub frameOf : List ℕ → Answer
-frameOf doc = choose (isFractured doc) (fractured (Fractured.verdictOf (Fractured.verdict benchKeys doc))) (binary (Binary.verdict doc))
+frameOf doc = choose (isFractured doc) (fractured (Fractured.verdictOf (Fractured.verdict benchKeys doc noNames))) (binary (Binary.verdict doc))
 
 abbrev pub answerIf : Option (List ℕ) → Answer
 answerIf none = hex

@@ -11,6 +11,7 @@ use Rattle.json.specs.Tree.{Tree, null, bool, num, arr, obj, none, more, end, m
 use Rattle.binary_json_rules.specs.Verdict as Binary
 use Rattle.binary_json_rules.specs.TreeOf as BinaryTree
 use Rattle.binary_json_rules.specs.Lookup.{entry, absent, Lookup, lookup}
+use Rattle.fractured_json_rules.specs.KeyList.{noNames}
 use Rattle.fractured_json_rules.specs.Verdict as Fractured
 use Rattle.fractured_json_rules.specs.Meaning.{Keys}
 use Rattle.fractured_json_rules.specs.TreeOf as FracturedTree
@@ -22,18 +23,18 @@ pub data Says : Type 0 where
   means : Tree → Says
   refused : (number place : ℕ) → Says
 
--- what the definitions say of a document: the tree of an accepted one, or the refusal
+-- what the definitions say of a document, Fractured JSON with a key list without a name: the tree of an accepted one, or the refusal
 abbrev pub ofBinary : List ℕ → Outcome (Unit {0}) (Unit {0}) → Says
 ofBinary doc (halt number place u) = refused number place
 ofBinary doc (done a u) = means (BinaryTree.treeOf doc)
 
 abbrev pub ofFractured : ℕ → List ℕ → Outcome Keys (Unit {0}) → Says
 ofFractured room doc (halt number place ks) = refused number place
-ofFractured room doc (done a ks) = means (FracturedTree.treeOf room doc)
+ofFractured room doc (done a ks) = means (FracturedTree.treeOf room doc noNames)
 
 abbrev pub saysOf : Format → List ℕ → Says
 saysOf binaryJson doc = ofBinary doc (Binary.verdict doc)
-saysOf fracturedJson doc = ofFractured mostKeys doc (Fractured.verdict mostKeys doc)
+saysOf fracturedJson doc = ofFractured mostKeys doc (Fractured.verdict mostKeys doc noNames)
 
 pub record Specimen : Type 0 where
   pub format : Format
