@@ -12,32 +12,31 @@ use mir.Val.{Fits}
 use lib.ListN.{length, getD, set, List·getD-eq-default}
 use Rattle.json.specs.Bytes.{part}
 use Rattle.json.specs.Choose.{choose}
-use Rattle.json.specs.Limits.{mostKeys}
 use Rattle.json.specs.Texts.{compareTexts, isEqual}
 use Rattle.text.specs.Hash.{hashOf}
 use Rattle.text.proofs.Hashing.{hash-small}
-use Rattle.fractured_json_rules.specs.Verdict.{met}
+use Rattle.fractured_json_rules.specs.KeyList.{met}
 use Rattle.fractured_json_keys.specs.Passed.{keysIn}
-use Rattle.fractured_json_keys.specs.Chains.{bucketsIn, bucketOf, followed, seenIn, linkedIn}
+use Rattle.fractured_json_keys.specs.Chains.{mostLinks, bucketsIn, bucketOf, followed, seenIn, linkedIn}
 
 -- ---- buckets
 
-pub buckets-half : (links : List ℕ) → length links / 2 < mostKeys → length links / 2 ≡ bucketsIn links
+pub buckets-half : (links : List ℕ) → length links / 2 < mostLinks → length links / 2 ≡ bucketsIn links
 unfolding bucketsIn
 buckets-half links h = omega arith
 
-pub buckets-most : (links : List ℕ) → mostKeys ≤ length links / 2 → mostKeys ≡ bucketsIn links
+pub buckets-most : (links : List ℕ) → mostLinks ≤ length links / 2 → mostLinks ≡ bucketsIn links
 unfolding bucketsIn
 buckets-most links h = omega arith
 
 pub ruleset buckets-laws = (buckets-half, buckets-most, needs)
 
 module _ (t x : List ℕ) (h n : ℕ) (e : h ≡ hashOf x) (same : x ≡ t) where
-  pub product-fits : n ≤ mostKeys → Fits w64 (h * n)
+  pub product-fits : n ≤ mostLinks → Fits w64 (h * n)
   product-fits l =
       let s = hash-small x in
       let b : h ≤ 4_294_967_296 = omega arith in
-      let p : h * n ≤ 4_294_967_296 * mostKeys = mul-le-mul b l in
+      let p : h * n ≤ 4_294_967_296 * mostLinks = mul-le-mul b l in
       record { fits = omega arith }
 
   pub bucket-is : (links : List ℕ) → n ≡ bucketsIn links → h * n / 4_294_967_296 ≡ bucketOf t (bucketsIn links)

@@ -12,7 +12,6 @@ use lib.ListN.{length, getD, set, length-set}
 use lib.Seq.{getD-set-same, getD-set-other}
 use Rattle.json.specs.Bytes.{part}
 use Rattle.json.specs.Choose.{choose}
-use Rattle.json.specs.Limits.{mostKeys}
 use Rattle.json.specs.Texts.{compareTexts, isEqual}
 use Rattle.json.specs.declared.Order.{Order}
 use Rattle.json.specs.declared.Order.the-variants.{Below, Equal, Above}
@@ -20,10 +19,10 @@ use Rattle.json.proofs.Texts.{texts-equal}
 use Rattle.text.specs.Hash.{hashOf}
 use Rattle.text.proofs.Hashing.{hash-small}
 use Rattle.fractured_json_rules.specs.Meaning.{Key, Keys, keyText}
-use Rattle.fractured_json_rules.specs.Verdict.{met}
+use Rattle.fractured_json_rules.specs.KeyList.{met}
 use Rattle.fractured_json_rules.specs.KeyTable.{keyOf}
 use Rattle.fractured_json_keys.specs.Passed.{keysFrom, keysIn, withPair}
-use Rattle.fractured_json_keys.specs.Chains.{bucketsIn, bucketOf, followed, seenIn, linkedIn}
+use Rattle.fractured_json_keys.specs.Chains.{mostLinks, bucketsIn, bucketOf, followed, seenIn, linkedIn}
 
 -- ---- one key more, at the end
 
@@ -250,9 +249,9 @@ module _ (doc words links : List ℕ) (m count p n : ℕ) (chains : Chains doc w
 
 buckets-same : (links : List ℕ) (count b : ℕ) → bucketsIn (linkedIn links count b) ≡ bucketsIn links
 unfolding bucketsIn linkedIn choose
-buckets-same links count b = ap (λ n. min mostKeys (n / 2)) (go (ltb count (min mostKeys (length links / 2))) (ltb b (min mostKeys (length links / 2))))
+buckets-same links count b = ap (λ n. min mostLinks (n / 2)) (go (ltb count (min mostLinks (length links / 2))) (ltb b (min mostLinks (length links / 2))))
   where
-    go : (e d : Bool) → length (choose e (choose d (set (set links (min mostKeys (length links / 2) + count) (getD links b 0)) b (count + 1)) links) links) ≡ length links
+    go : (e d : Bool) → length (choose e (choose d (set (set links (min mostLinks (length links / 2) + count) (getD links b 0)) b (count + 1)) links) links) ≡ length links
     go true true = simp length-set
     go true false = refl
     go false d = refl

@@ -9,7 +9,7 @@ use lib.ListN.{length, getD}
 use Rattle.json.specs.Bytes.{part}
 use Rattle.json.specs.Choose.{choose}
 use Rattle.json.specs.Texts.{compareTexts, isEqual}
-use Rattle.fractured_json_rules.specs.Verdict.{met}
+use Rattle.fractured_json_rules.specs.KeyList.{met}
 use Rattle.fractured_json_keys.specs.Passed.{keysFrom, keysIn}
 
 -- ---- the keys of the table

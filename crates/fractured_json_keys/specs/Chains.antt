@@ -7,17 +7,20 @@ use mathlib.Core.List.{List}
 use lib.Dec.{ltb}
 use lib.ListN.{length, getD, set}
 use Rattle.json.specs.Choose.{choose}
-use Rattle.json.specs.Limits.{mostKeys}
 use Rattle.json.specs.Texts.{compareTexts, isEqual}
 use Rattle.text.specs.Hash.{hashOf}
 use Rattle.fractured_json_rules.specs.Meaning.{keyText}
-use Rattle.fractured_json_rules.specs.Verdict.{met}
+use Rattle.fractured_json_rules.specs.KeyList.{met}
 use Rattle.fractured_json_rules.specs.KeyTable.{keyOf}
 use Rattle.fractured_json_keys.specs.Passed.{keysIn}
 
+-- the most keys that are chained: a link has 16 bits, and is one more than the number of its key
+abbrev pub mostLinks : ℕ
+mostLinks = 65_535
+
 -- the links: half of them for buckets, the other half for keys
 unfoldable pub bucketsIn : List ℕ → ℕ
-bucketsIn links = min mostKeys (length links / 2)
+bucketsIn links = min mostLinks (length links / 2)
 
 -- the bucket of a text among so many
 unfoldable pub bucketOf : List ℕ → ℕ → ℕ

@@ -2,24 +2,25 @@
 // bucket, the other half for keys, each with the key before it in its bucket.
 use crate::pairs::scan;
 use fractured_json_values::texts::text_of;
-use json::limits::MOST_KEYS;
 use text::same;
 ghost use mathlib.Core.Path.{_≡_};
 ghost use Prim.Native.Nat.{_*_, _^_, _≤_, _<_};
 ghost use lib.ListN.{length, getD};
 ghost use Rattle.json.specs.Bytes.{part};
-ghost use Rattle.json.specs.Limits.{mostKeys};
-ghost use Rattle.fractured_json_keys.specs.Chains.{bucketsIn, bucketOf, followed, seenIn, linkedIn};
+ghost use Rattle.fractured_json_keys.specs.Chains.{mostLinks, bucketsIn, bucketOf, followed, seenIn, linkedIn};
+
+// The most keys that are chained: a link has 16 bits, and is one more than the number of its key.
+const MOST_LINKS: usize = 65535;
 
 // How many buckets there are links for.
 fn buckets(links: &[u16]) -> usize
-    ensures { λ r. ⌜ (r ≡ bucketsIn (now (links .entry))) × (2 * r ≤ length (now (links .entry))) × (r ≤ mostKeys) ⌝ }
+    ensures { λ r. ⌜ (r ≡ bucketsIn (now (links .entry))) × (2 * r ≤ length (now (links .entry))) × (r ≤ mostLinks) ⌝ }
 {
     let half = links.len() / 2;
-    if half < MOST_KEYS {
+    if half < MOST_LINKS {
         return half;
     }
-    MOST_KEYS
+    MOST_LINKS
 }
 
 // The bucket of the text of `len` bytes at a place.

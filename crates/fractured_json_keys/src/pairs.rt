@@ -5,7 +5,7 @@ use text::same;
 ghost use mathlib.Core.Path.{_≡_};
 ghost use Prim.Native.Nat.{_/_, _^_, _<_, min};
 ghost use lib.ListN.{length};
-ghost use Rattle.fractured_json_rules.specs.Verdict.{met};
+ghost use Rattle.fractured_json_rules.specs.KeyList.{met};
 ghost use Rattle.fractured_json_keys.specs.Passed.{keysIn, withPair};
 
 // Stores the pair of key `count`.

@@ -2,7 +2,7 @@
 use mathlib.Core.Path.{_≡_}
 use Prim.Native.Nat.{_+_, _/_, _≤_}
 use lib.ListN.{length}
-use Rattle.fractured_json_rules.specs.Verdict.{met}
+use Rattle.fractured_json_rules.specs.KeyList.{met}
 use Rattle.fractured_json_keys.specs.Passed.{keysFrom, keysIn}
 use Rattle.fractured_json_keys.proofs.MetBefore.{met-laws}
 use Rattle.fractured_json_keys.proofs.pairs.scan.Statement.{statement}
