@@ -22,7 +22,7 @@ use Rattle.fractured_json_rules.proofs.Readers.{kept-is, keep-is, text-is, text
 use Rattle.fractured_json_values.specs.Heads.{keyHeadOf, keyNumberBy, numberedBy}
 use Rattle.fractured_json_values.specs.Opened.{ReadsNumeral}
 use Rattle.fractured_json_check.specs.Known.{Known}
-use Rattle.fractured_json_check.specs.Table.{Table, table, freshKeyIn, newKeyIn, oldKeyIn, keyIn}
+use Rattle.fractured_json_check.specs.Table.{Table, table, freshKeyIn, newKeyIn, oldKeyIn, listedKeyIn, keyIn}
 use Rattle.fractured_json_values.specs.declared.types.KeyHead.{KeyHead}
 use Rattle.fractured_json_values.specs.declared.values.Numeral.{Numeral}
 use Rattle.fractured_json_keys.specs.Passed.{withPair}
@@ -78,64 +78,80 @@ pub ruleset fresh-laws = (no-room, key-passed, room-held, count-fits, needs)
 
 -- ---- a key by its kind
 
-module _ (doc : List ℕ) (at kind number past count : ℕ) (words links : List ℕ) where
+module _ (doc : List ℕ) (names at kind number past count : ℕ) (words links : List ℕ) where
   pub as-new : (r : Outcome Table ℕ) → kind ≡ 0 → r ≡ newKeyIn doc at (numeral number past) (table count words links)
-      → r ≡ numberedBy at (newKeyIn doc at) (oldKeyIn at) kind (numeral number past) (table count words links)
+      → r ≡ numberedBy (newKeyIn doc at) (oldKeyIn at) (listedKeyIn names at) kind (numeral number past) (table count words links)
   unfolding numberedBy choose
   as-new r e h = rw e h
 
-  pub as-old : kind ≡ 1 → number < count → done past (table count words links) ≡ numberedBy at (newKeyIn doc at) (oldKeyIn at) kind (numeral number past) (table count words links)
+  pub as-old : kind ≡ 1 → number < count → done past (table count words links) ≡ numberedBy (newKeyIn doc at) (oldKeyIn at) (listedKeyIn names at) kind (numeral number past) (table count words links)
   unfolding numberedBy oldKeyIn choose
   as-old e h = rw e (sym (kept-is _ _ ∙ pass _ _ _ _ _ (lt→ltb _ _ h)))
 
-  pub as-unknown : kind ≡ 1 → count ≤ number → halt 38 at (table count words links) ≡ numberedBy at (newKeyIn doc at) (oldKeyIn at) kind (numeral number past) (table count words links)
+  pub as-unknown : kind ≡ 1 → count ≤ number → halt 38 at (table count words links) ≡ numberedBy (newKeyIn doc at) (oldKeyIn at) (listedKeyIn names at) kind (numeral number past) (table count words links)
   unfolding numberedBy oldKeyIn choose
   as-unknown e h = rw e (sym (kept-is _ _ ∙ fail _ _ _ _ _ (λ t. let l = ltb→lt number count t in omega arith)))
 
-  pub as-global : (kind ≡ 0 → ⊥) → (kind ≡ 1 → ⊥) → halt 38 at (table count words links) ≡ numberedBy at (newKeyIn doc at) (oldKeyIn at) kind (numeral number past) (table count words links)
-  unfolding numberedBy choose
-  as-global f g = rw (ne-eqb kind 0 f, ne-eqb kind 1 g)
+  pub as-listed : (kind ≡ 0 → ⊥) → (kind ≡ 1 → ⊥) → number < names
+      → done past (table count words links) ≡ numberedBy (newKeyIn doc at) (oldKeyIn at) (listedKeyIn names at) kind (numeral number past) (table count words links)
+  unfolding numberedBy listedKeyIn choose
+  as-listed f g h = rw (ne-eqb kind 0 f, ne-eqb kind 1 g) (sym (pass _ _ _ _ _ (lt→ltb _ _ h)))
 
-pub ruleset numbered-laws = (as-new, as-old, as-unknown, as-global, needs)
+  pub as-unlisted : (kind ≡ 0 → ⊥) → (kind ≡ 1 → ⊥) → names ≤ number
+      → halt 38 at (table count words links) ≡ numberedBy (newKeyIn doc at) (oldKeyIn at) (listedKeyIn names at) kind (numeral number past) (table count words links)
+  unfolding numberedBy listedKeyIn choose
+  as-unlisted f g h = rw (ne-eqb kind 0 f, ne-eqb kind 1 g) (sym (fail _ _ _ _ _ (λ t. let l = ltb→lt number names t in omega arith)))
+
+pub ruleset numbered-laws = (as-new, as-old, as-unknown, as-listed, as-unlisted, needs)
 
 -- ---- a key at a place
 
-module _ (doc : List ℕ) (at count : ℕ) (words links : List ℕ) where
-  pub key-past : length doc ≤ at → halt 35 at (table count words links) ≡ keyIn doc at (table count words links)
+module _ (doc : List ℕ) (names at count : ℕ) (words links : List ℕ) where
+  pub key-past : length doc ≤ at → halt 35 at (table count words links) ≡ keyIn doc names at (table count words links)
   unfolding keyIn
-  key-past h = sym (past-end doc at _ _ _ h)
+  key-past h = sym (past-end doc at _ _ _ _ h)
 
   module _ (i : at < length doc) (h : KeyHead) (hs : h ≡ keyHeadOf (keyFormOf (getD doc at 0))) where
-    pub key-reserved : h .kind ≡ 3 → halt 36 at (table count words links) ≡ keyIn doc at (table count words links)
+    pub key-reserved : h .kind ≡ 3 → halt 36 at (table count words links) ≡ keyIn doc names at (table count words links)
     unfolding keyIn
-    key-reserved e = sym (head-reserved doc at _ _ _ i h hs e)
+    key-reserved e = sym (head-reserved doc at _ _ _ _ i h hs e)
 
     module _ (f : h .kind ≡ 3 → ⊥) (c : Numeral) (cs : ReadsNumeral (length doc) (ask (keyNumberAt doc at (keyNumberBy (h .spelled) (h .number)))) c) where
-      pub key-refused : (r : Refusal) → c ≡ Numeral.Refused r → halt (r .number) (r .place) (table count words links) ≡ keyIn doc at (table count words links)
+      pub key-refused : (r : Refusal) → c ≡ Numeral.Refused r → halt (r .number) (r .place) (table count words links) ≡ keyIn doc names at (table count words links)
       unfolding keyIn
-      key-refused r e = sym (number-refused doc at _ _ _ i h hs f c cs r e)
+      key-refused r e = sym (number-refused doc at _ _ _ _ i h hs f c cs r e)
 
-      pub key-by-number : (n p : ℕ) (z : Outcome Table ℕ) → c ≡ Numeral.Is n p → z ≡ numberedBy at (newKeyIn doc at) (oldKeyIn at) (h .kind) (numeral n p) (table count words links)
-          → z ≡ keyIn doc at (table count words links)
+      pub key-by-number : (n p : ℕ) (z : Outcome Table ℕ) → c ≡ Numeral.Is n p → z ≡ numberedBy (newKeyIn doc at) (oldKeyIn at) (listedKeyIn names at) (h .kind) (numeral n p) (table count words links)
+          → z ≡ keyIn doc names at (table count words links)
       unfolding keyIn
-      key-by-number n p z e q = q ∙ sym (number-read doc at _ _ _ i h hs f c cs n p e)
+      key-by-number n p z e q = q ∙ sym (number-read doc at _ _ _ _ i h hs f c cs n p e)
 
 pub ruleset check-key-laws = (key-past, key-reserved, key-refused, key-by-number, numeral-inside, needs)
 
 -- ---- a key that is known by its byte
 
-pub unknown : (doc : List ℕ) (count at : ℕ) → Known doc count at false
+pub unknown : (doc : List ℕ) (names count at : ℕ) → Known doc names count at false
 unfolding Known
-unknown doc count at e = absurd (subst T (sym e) tt)
+unknown doc names count at e = absurd (subst T (sym e) tt)
 
-module _ (doc : List ℕ) (count at : ℕ) (i : at < length doc) (h : KeyHead) (hs : h ≡ keyHeadOf (keyFormOf (getD doc at 0))) (k : h .kind ≡ 1) (z : h .spelled ≡ 0) where
-  pub known-below : Known doc count at (ltb (h .number) count)
+module _ (doc : List ℕ) (names count at : ℕ) (i : at < length doc) (h : KeyHead) (hs : h ≡ keyHeadOf (keyFormOf (getD doc at 0))) (z : h .spelled ≡ 0) where
+  pub known-below : h .kind ≡ 1 → Known doc names count at (ltb (h .number) count)
   unfolding Known keyIn keyNumberAt
-  known-below e = (
+  known-below k e = (
     i,
     λ words links.
-        head-numbered doc at _ _ _ i h hs (λ q. omega arith)
-        ∙ (rw z (then _ _ _ refl) ∙ sym (as-old doc at (h .kind) (h .number) (at + 1) count words links k (ltb→lt (h .number) count (subst T (sym e) tt)))),
+        head-numbered doc at _ _ _ _ i h hs (λ q. omega arith)
+        ∙ (rw z (then _ _ _ refl) ∙ sym (as-old doc names at (h .kind) (h .number) (at + 1) count words links k (ltb→lt (h .number) count (subst T (sym e) tt)))),
   )
 
-pub ruleset known-laws = (unknown, known-below, needs)
+  pub listed-below : h .kind ≡ 2 → Known doc names count at (ltb (h .number) names)
+  unfolding Known keyIn keyNumberAt
+  listed-below k e = (
+    i,
+    λ words links.
+        head-numbered doc at _ _ _ _ i h hs (λ q. omega arith)
+        ∙ (rw z (then _ _ _ refl) ∙ sym (as-listed doc names at (h .kind) (h .number) (at + 1) count words links (λ q. omega arith) (λ q. omega arith)
+        (ltb→lt (h .number) names (subst T (sym e) tt)))),
+  )
+
+pub ruleset known-laws = (unknown, known-below, listed-below, needs)

@@ -13,7 +13,7 @@ use Rattle.json.specs.declared.Refusal.{Refusal}
 use Rattle.json.specs.declared.Verdict.{Verdict}
 use Rattle.json.proofs.Reading.{then, stops, need-yes, need-no}
 use Rattle.fractured_json_rules.specs.Meaning.{Keys}
-use Rattle.fractured_json_rules.specs.Verdict.{header, inTurn, value, checkKey, check}
+use Rattle.fractured_json_rules.specs.Verdict.{header, inTurn, value, checkKey, document, check}
 use Rattle.fractured_json_rules.specs.KeyTable.{roomOf, stored, Checked, checkedBy, checked}
 use Rattle.fractured_json_values.specs.Opened.{entry}
 use Rattle.fractured_json_values.proofs.Carried.{carry, carry-header}
@@ -32,17 +32,17 @@ all-zero (suc n) zero = refl
 all-zero (suc n) (suc i) = all-zero n i
 
 -- one entry of an array is its value
-one-entry : (doc : List ℕ) (s : Table) → inTurn (entry false (keyIn doc) (value (keyIn doc) deepest doc)) 1 3 s ≡ value (keyIn doc) deepest doc 3 s
+one-entry : (doc : List ℕ) (names : ℕ) (s : Table) → inTurn (entry false (keyIn doc names) (value (keyIn doc names) deepest doc)) 1 3 s ≡ value (keyIn doc names) deepest doc 3 s
 unfolding inTurn entry _>>=_ follow
-one-entry doc s = go (value (keyIn doc) deepest doc 3 s)
+one-entry doc names s = go (value (keyIn doc names) deepest doc 3 s)
   where
     go : (r : Outcome Table ℕ) → follow r answer ≡ r
     go (halt n p t) = refl
     go (done a t) = refl
 
-pub root-walked : (doc words : List ℕ) (n : ℕ) (w : Walk) (after linked : List ℕ)
-    → out w after linked ≡ inTurn (entry false (keyIn doc) (value (keyIn doc) deepest doc)) 1 3 (table 0 words (replicate n 0)) → toldWalk w after ≡ walked doc words
-root-walked doc words n w after linked e = walk-is doc words (replicate n 0) (all-zero n) w after linked (e ∙ one-entry doc _)
+pub root-walked : (doc : List ℕ) (names : ℕ) (words : List ℕ) (n : ℕ) (w : Walk) (after linked : List ℕ)
+    → out w after linked ≡ inTurn (entry false (keyIn doc names) (value (keyIn doc names) deepest doc)) 1 3 (table 0 words (replicate n 0)) → toldWalk w after ≡ walked doc names words
+root-walked doc names words n w after linked e = walk-is doc names words (replicate n 0) (all-zero n) w after linked (e ∙ one-entry doc names _)
 
 pub ruleset root-laws = (root-walked, needs)
 
@@ -68,33 +68,33 @@ closes words len (done a ks) = go (eqb a len)
 pub document-short : (doc : List ℕ) (v : Verdict) → told v ≡ ask (header doc) → v ≡ Verdict.Accepted → length doc < 2 ^ 32
 document-short doc v h e = let o = header-opens doc (sym h ∙ ap told e) in let l = o .short in omega arith
 
-module _ (doc words : List ℕ) (v : Verdict) (h : told v ≡ ask (header doc)) where
-  pub header-refused : (r : Refusal) (c : Answer) → v ≡ Verdict.Refused r → told (c .verdict) ≡ refuses (r .number) (r .place) → c .count ≡ 0 → toldChecked c words ≡ checked doc words
-  unfolding check stored
+module _ (doc : List ℕ) (names : ℕ) (words : List ℕ) (v : Verdict) (h : told v ≡ ask (header doc)) where
+  pub header-refused : (r : Refusal) (c : Answer) → v ≡ Verdict.Refused r → told (c .verdict) ≡ refuses (r .number) (r .place) → c .count ≡ 0 → toldChecked c words ≡ checkedBy words (document (roomOf words) doc names [])
+  unfolding document stored
   header-refused r c e a b = rw (a, b) (ap (checkedBy words) (sym (stops _ _ _ (carry-header doc [] ∙ ap (carry []) (sym h ∙ ap told e)))))
 
-  module _ (e : v ≡ Verdict.Accepted) (w : Walk) (after : List ℕ) (ws : toldWalk w after ≡ walked doc words) where
-    goes-on : check (roomOf words) doc [] ≡ (value (checkKey (roomOf words) doc) deepest doc 3 >>= λ past. need (eqb past (length doc)) 42 past) []
-    unfolding check
+  module _ (e : v ≡ Verdict.Accepted) (w : Walk) (after : List ℕ) (ws : toldWalk w after ≡ walked doc names words) where
+    goes-on : document (roomOf words) doc names [] ≡ (value (checkKey (roomOf words) doc names) deepest doc 3 >>= λ past. need (eqb past (length doc)) 42 past) []
+    unfolding document
     goes-on = then _ _ _ (carry-header doc [] ∙ ap (carry []) (sym h ∙ ap told e))
 
-    checked-is : checked doc words ≡ closed (length doc) (toldWalk w after)
+    checked-is : checkedBy words (document (roomOf words) doc names []) ≡ closed (length doc) (toldWalk w after)
     unfolding _>>=_
-    checked-is = ap (checkedBy words) goes-on ∙ (closes words (length doc) (value (checkKey (roomOf words) doc) deepest doc 3 []) ∙ ap (closed (length doc)) (sym ws))
+    checked-is = ap (checkedBy words) goes-on ∙ (closes words (length doc) (value (checkKey (roomOf words) doc names) deepest doc 3 []) ∙ ap (closed (length doc)) (sym ws))
 
-    pub walk-refused : (r : Refusal) (n : ℕ) (c : Answer) → w ≡ Walk.Refused n r → told (c .verdict) ≡ refuses (r .number) (r .place) → c .count ≡ n → toldChecked c after ≡ checked doc words
+    pub walk-refused : (r : Refusal) (n : ℕ) (c : Answer) → w ≡ Walk.Refused n r → told (c .verdict) ≡ refuses (r .number) (r .place) → c .count ≡ n → toldChecked c after ≡ checkedBy words (document (roomOf words) doc names [])
     unfolding closed
     walk-refused r n c q a b = rw (a, b) (sym (checked-is ∙ ap (λ x. closed (length doc) (toldWalk x after)) q))
 
     module _ (a c : ℕ) (q : w ≡ Walk.End c a) where
-      ends : checked doc words ≡ record { verdict = ask (need (eqb a (length doc)) 42 a); count = c; words = after }
+      ends : checkedBy words (document (roomOf words) doc names []) ≡ record { verdict = ask (need (eqb a (length doc)) 42 a); count = c; words = after }
       unfolding closed
       ends = checked-is ∙ ap (λ x. closed (length doc) (toldWalk x after)) q
 
-      pub bytes-after : (a ≡ length doc → ⊥) → (z : Answer) → told (z .verdict) ≡ refuses 42 a → z .count ≡ c → toldChecked z after ≡ checked doc words
+      pub bytes-after : (a ≡ length doc → ⊥) → (z : Answer) → told (z .verdict) ≡ refuses 42 a → z .count ≡ c → toldChecked z after ≡ checkedBy words (document (roomOf words) doc names [])
       bytes-after n z x y = rw (x, y) (sym (ends ∙ ap (λ x. record { verdict = x; count = c; words = after }) (need-no _ _ _ _ (unlike n))))
 
-      pub accepts : a ≡ length doc → record { verdict = answers tt; count = c; words = after } ≡ checked doc words
+      pub accepts : a ≡ length doc → record { verdict = answers tt; count = c; words = after } ≡ checkedBy words (document (roomOf words) doc names [])
       accepts n = sym (ends ∙ ap (λ x. record { verdict = x; count = c; words = after }) (need-yes _ _ _ _ (rw n (eqb-refl (length doc)))))
 
 pub ruleset check-laws = (document-short, header-refused, walk-refused, bytes-after, accepts, needs)

@@ -12,7 +12,8 @@ use Rattle.json.specs.Limits.{mostKeys, deepest}
 use Rattle.json.specs.Reading.{Outcome, halt, done, Reading, Asked, ask, answer, keep, follow, _>>=_, need}
 use Rattle.fractured_json_rules.specs.ByteTables.{KeyNumber, KeyForm, immediate, backReference, globalIndex, kReserved, keyFormOf}
 use Rattle.fractured_json_rules.specs.Meaning.{Key, Keys}
-use Rattle.fractured_json_rules.specs.Verdict.{byteAt, textAt, Numeral, numeral, keyNumberAt, inTurn, member, value, keyBy, met, newKey, oldKey, checkKey}
+use Rattle.fractured_json_rules.specs.KeyList.{met}
+use Rattle.fractured_json_rules.specs.Verdict.{byteAt, textAt, Numeral, numeral, keyNumberAt, inTurn, member, value, keyBy, newKey, oldKey, listedKey, checkKey}
 use Rattle.fractured_json_rules.specs.KeyTable.{roomOf, pairs, stored, keyOf}
 use Rattle.fractured_json_rules.proofs.KeyTable.{room-words, stored-length}
 use Rattle.fractured_json_rules.proofs.Readers.{kept-is, keep-is}
@@ -20,7 +21,7 @@ use Rattle.fractured_json_values.specs.Opened.{Opened, leaf, inside, openedAt}
 use Rattle.fractured_json_keys.specs.Passed.{keysFrom, keysIn, withPair}
 use Rattle.fractured_json_keys.specs.Chains.{bucketsIn, bucketOf, seenIn, linkedIn}
 use Rattle.fractured_json_keys.proofs.Chained.{Linked, no-links, seen-met, linked-more}
-use Rattle.fractured_json_check.specs.Table.{Table, table, freshKeyIn, newKeyIn, oldKeyIn, keyIn, out, walkedBy, walked, toldWalk}
+use Rattle.fractured_json_check.specs.Table.{Table, table, freshKeyIn, newKeyIn, oldKeyIn, listedKeyIn, keyIn, out, walkedBy, walked, toldWalk}
 use Rattle.fractured_json_check.specs.declared.walk.Walk.{Walk}
 use Rattle.fractured_json_check.specs.declared.walk.Walk.the-variants.{End, Refused}
 use Rattle.fractured_json_values.proofs.Carried.{carry, carry-byte, carry-key-number, carry-opened}
@@ -70,7 +71,7 @@ pair-stored (k ∷ ks) (a ∷ b ∷ ws) p n h =
 
 -- ---- side by side
 
-module _ (words doc : List ℕ) where
+module _ (words doc : List ℕ) (names : ℕ) where
   -- the keys passed, the table that holds them, and the links that chain them
   record Tied (ks : Keys) (t : Table) : Type 0 where
     counts : t .count ≡ length ks
@@ -194,14 +195,19 @@ module _ (words doc : List ℕ) where
       let e : ltb (n .is) (length ks) ≡ ltb (n .is) (t .count) = rw (r .counts) in
       rw (kept-is _ ks, kept-is _ t) (sim-test _ _ _ _ _ _ ks t e r (λ y. (refl, r)))
 
-  sim-by : (o : ℕ) (f : KeyForm) → Sim (keyBy doc o (newKey (roomOf words) doc o) (oldKey o) f) (keyBy doc o (newKeyIn doc o) (oldKeyIn o) f)
+  sim-listed : (o : ℕ) (n : Numeral) → Sim (listedKey names o n) (listedKeyIn names o n)
+  unfolding listedKey listedKeyIn
+  sim-listed o n ks t r = sim-test _ _ _ _ _ _ ks t refl r (λ y. (refl, r))
+
+  sim-by : (o : ℕ) (f : KeyForm)
+      → Sim (keyBy doc o (newKey (roomOf words) doc o) (oldKey o) (listedKey names o) f) (keyBy doc o (newKeyIn doc o) (oldKeyIn o) (listedKeyIn names o) f)
   unfolding keyBy
   sim-by o (immediate x) = sim-then _ _ _ _ (sim-key-number o x) (λ n. sim-new o n)
   sim-by o (backReference x) = sim-then _ _ _ _ (sim-key-number o x) (λ n. sim-old o n)
-  sim-by o (globalIndex x) = sim-then _ _ _ _ (sim-key-number o x) (λ n ks t r. (refl, refl, r))
+  sim-by o (globalIndex x) = sim-then _ _ _ _ (sim-key-number o x) (λ n. sim-listed o n)
   sim-by o kReserved = λ ks t r. (refl, refl, r)
 
-  sim-key : (o : ℕ) → Sim (checkKey (roomOf words) doc o) (keyIn doc o)
+  sim-key : (o : ℕ) → Sim (checkKey (roomOf words) doc names o) (keyIn doc names o)
   unfolding checkKey keyIn
   sim-key o = sim-then _ _ _ _ (sim-byte o o) (λ b. sim-by o (keyFormOf b))
 
@@ -212,7 +218,7 @@ module _ (words doc : List ℕ) where
   sim-turns f g h zero o = λ ks t r. (refl, r)
   sim-turns f g h (suc n) o = sim-then _ _ _ _ (h o) (λ next. sim-turns f g h n next)
 
-  sim-member : (f : ℕ → Reading Keys ℕ) (g : ℕ → Reading Table ℕ) → ((o : ℕ) → Sim (f o) (g o)) → (o : ℕ) → Sim (member (checkKey (roomOf words) doc) f o) (member (keyIn doc) g o)
+  sim-member : (f : ℕ → Reading Keys ℕ) (g : ℕ → Reading Table ℕ) → ((o : ℕ) → Sim (f o) (g o)) → (o : ℕ) → Sim (member (checkKey (roomOf words) doc names) f o) (member (keyIn doc names) g o)
   unfolding member
   sim-member f g h o = sim-then _ _ _ _ (sim-key o) (λ v. h v)
 
@@ -222,7 +228,7 @@ module _ (words doc : List ℕ) where
   sim-on array object array' object' h k (inside true n at) = k (numeral n at)
   sim-on array object array' object' h k (inside false n at) = h (numeral n at)
 
-  sim-value : (l o : ℕ) → Sim (value (checkKey (roomOf words) doc) l doc o) (value (keyIn doc) l doc o)
+  sim-value : (l o : ℕ) → Sim (value (checkKey (roomOf words) doc names) l doc o) (value (keyIn doc names) l doc o)
   unfolding value
   sim-value zero o ks t r =
       alike-by (value-opened doc o _ _ ks) (value-opened doc o _ _ t)
@@ -238,11 +244,11 @@ module _ (words doc : List ℕ) where
   same-walk (done a ks) (End c b) after links h = rw (h .0, h .1 .counts, h .1 .holds)
 
 -- the walk over the table from the root on gives the rules' end, number of pairs and words
-pub walk-is : (doc words links : List ℕ) → ((i : ℕ) → getD links i 0 ≡ 0) → (w : Walk) (after linked : List ℕ) → out w after linked ≡ value (keyIn doc) deepest doc 3 (table 0 words links)
-    → toldWalk w after ≡ walked doc words
+pub walk-is : (doc : List ℕ) (names : ℕ) (words links : List ℕ) → ((i : ℕ) → getD links i 0 ≡ 0) → (w : Walk) (after linked : List ℕ)
+    → out w after linked ≡ value (keyIn doc names) deepest doc 3 (table 0 words links) → toldWalk w after ≡ walked doc names words
 unfolding stored
-walk-is doc words links z w after linked e =
-    same-walk words doc (value (checkKey (roomOf words) doc) deepest doc 3 []) w after linked (rw e (sim-value words doc deepest 3 [] (table 0 words links) start))
+walk-is doc names words links z w after linked e =
+    same-walk words doc names (value (checkKey (roomOf words) doc names) deepest doc 3 []) w after linked (rw e (sim-value words doc names deepest 3 [] (table 0 words links) start))
   where
-    start : Tied words doc [] (table 0 words links)
+    start : Tied words doc names [] (table 0 words links)
     start = record { counts = refl; holds = refl; roomy = omega arith; linked = no-links doc words links z }

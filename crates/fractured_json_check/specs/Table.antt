@@ -49,15 +49,21 @@ oldKeyIn o n = do
   need (ltb (n .is) (t .count)) 38 o
   answer (n .past)
 
-unfoldable pub keyIn : List ℕ → ℕ → Reading Table ℕ
-keyIn doc o = do
+-- a global index, with a list of so many names
+unfoldable pub listedKeyIn : ℕ → ℕ → Numeral → Reading Table ℕ
+listedKeyIn names o n = do
+  need (ltb (n .is) names) 38 o
+  answer (n .past)
+
+unfoldable pub keyIn : List ℕ → ℕ → ℕ → Reading Table ℕ
+keyIn doc names o = do
   b ← byteAt doc o o
-  keyBy doc o (newKeyIn doc o) (oldKeyIn o) (keyFormOf b)
+  keyBy doc o (newKeyIn doc o) (oldKeyIn o) (listedKeyIn names o) (keyFormOf b)
 
 -- where the value of an entry starts: in an object after its key
-unfoldable pub keyedIn : Bool → List ℕ → ℕ → Reading Table ℕ
-keyedIn true doc o = keyIn doc o
-keyedIn false doc o = answer o
+unfoldable pub keyedIn : Bool → List ℕ → ℕ → ℕ → Reading Table ℕ
+keyedIn true doc names o = keyIn doc names o
+keyedIn false doc names o = answer o
 
 -- what the walk answers, with the words and links that it left
 abbrev pub out : Walk → List ℕ → List ℕ → Outcome Table ℕ
@@ -76,8 +82,8 @@ abbrev pub walkedBy : List ℕ → Outcome Keys ℕ → Walked
 walkedBy words q = record { end = verdictOf q; count = length (keysOf q); words = stored (keysOf q) words }
 
 -- by the rules
-abbrev pub walked : List ℕ → List ℕ → Walked
-walked doc words = walkedBy words (value (checkKey (roomOf words) doc) deepest doc 3 [])
+abbrev pub walked : List ℕ → ℕ → List ℕ → Walked
+walked doc names words = walkedBy words (value (checkKey (roomOf words) doc names) deepest doc 3 [])
 
 -- by the code
 abbrev pub toldWalk : Walk → List ℕ → Walked

@@ -15,7 +15,7 @@ ghost use lib.ListN.{length};
 ghost use Rattle.fractured_json_rules.specs.Verdict.{numeral};
 ghost use Rattle.fractured_json_values.specs.Heads.{numberedBy};
 ghost use Rattle.fractured_json_check.specs.Known.{Known};
-ghost use Rattle.fractured_json_check.specs.Table.{table, freshKeyIn, newKeyIn, oldKeyIn, keyIn, out};
+ghost use Rattle.fractured_json_check.specs.Table.{table, freshKeyIn, newKeyIn, oldKeyIn, listedKeyIn, keyIn, out};
 
 // An immediate key whose text of `number` bytes at `past` is fresh and falls into the bucket `b`: once passed, it has its pair,
 // its link and its number.
@@ -86,6 +86,7 @@ fn new_key(
 // A key by its kind, once the number that it carries has been read.
 fn numbered(
     doc: &[u8],
+    names: usize,
     keys: &mut [u32],
     links: &mut [u16],
     count: usize,
@@ -95,7 +96,7 @@ fn numbered(
     past: usize,
 ) -> Walk
     requires { ⌜ (length (now doc) < 2 ^ 32) × (past ≤ length (now doc)) ⌝ }
-    ensures { λ r. ⌜ out r (now (keys .exit)) (now (links .exit)) ≡ numberedBy at (newKeyIn (now (doc .entry)) at) (oldKeyIn at) kind (numeral number past) (table count (now (keys .entry)) (now (links .entry))) ⌝ }
+    ensures { λ r. ⌜ out r (now (keys .exit)) (now (links .exit)) ≡ numberedBy (newKeyIn (now (doc .entry)) at) (oldKeyIn at) (listedKeyIn names at) kind (numeral number past) (table count (now (keys .entry)) (now (links .entry))) ⌝ }
 {
     if kind == 0 {
         return new_key(doc, keys, links, count, at, number, past);
@@ -112,6 +113,9 @@ fn numbered(
             },
         };
     }
+    if number < names {
+        return Walk::End { count, at: past };
+    }
     Walk::Refused {
         count,
         refusal: Refusal {
@@ -124,13 +128,14 @@ fn numbered(
 // The key at a place, as the check reads it: where its value starts, and the number of keys passed.
 pub(crate) fn check_key(
     doc: &[u8],
+    names: usize,
     keys: &mut [u32],
     links: &mut [u16],
     count: usize,
     at: usize,
 ) -> Walk
     requires { ⌜ length (now doc) < 2 ^ 32 ⌝ }
-    ensures { λ r. ⌜ out r (now (keys .exit)) (now (links .exit)) ≡ keyIn (now (doc .entry)) at (table count (now (keys .entry)) (now (links .entry))) ⌝ }
+    ensures { λ r. ⌜ out r (now (keys .exit)) (now (links .exit)) ≡ keyIn (now (doc .entry)) names at (table count (now (keys .entry)) (now (links .entry))) ⌝ }
 {
     if doc.len() <= at {
         return Walk::Refused {
@@ -155,22 +160,25 @@ pub(crate) fn check_key(
     let n = key_number_at(doc, at, h.spelled, h.number);
     match n {
         Numeral::Refused(refusal) => Walk::Refused { count, refusal },
-        Numeral::Is { number, past } => numbered(doc, keys, links, count, at, kind, number, past),
+        Numeral::Is { number, past } => numbered(doc, names, keys, links, count, at, kind, number, past),
     }
 }
 
-// Whether the key at a place is a back reference in one byte that is found: the most frequent key, told by a branch of its own
-// and not by an answer in memory.
-pub(crate) fn is_known(doc: &[u8], count: usize, at: usize) -> bool
-    ensures { λ r. ⌜ Known (now (doc .entry)) count at r ⌝ }
+// Whether the key at a place is a back reference or a global index in one byte that is found: the most frequent keys, told by a
+// branch of their own and not by an answer in memory.
+pub(crate) fn is_known(doc: &[u8], names: usize, count: usize, at: usize) -> bool
+    ensures { λ r. ⌜ Known (now (doc .entry)) names count at r ⌝ }
 {
     if doc.len() <= at {
         return false;
     }
     let h = key_head(doc[at]);
-    if h.kind == 1 {
-        if h.spelled == 0 {
+    if h.spelled == 0 {
+        if h.kind == 1 {
             return h.number < count;
+        }
+        if h.kind == 2 {
+            return h.number < names;
         }
     }
     false

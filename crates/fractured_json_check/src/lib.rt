@@ -11,7 +11,9 @@ use json::Verdict;
 use walk::Walk;
 ghost use mathlib.Core.Path.{_≡_};
 ghost use Rattle.json.specs.Reading.{refuses, told};
-ghost use Rattle.fractured_json_rules.specs.KeyTable.{checked};
+ghost use mathlib.Core.List.{[]};
+ghost use Rattle.fractured_json_rules.specs.Verdict.{document};
+ghost use Rattle.fractured_json_rules.specs.KeyTable.{roomOf, checkedBy, checked};
 ghost use Rattle.fractured_json_check.specs.Told.{toldChecked};
 
 // A refusal, beside the number of pairs.
@@ -24,16 +26,15 @@ fn refuse(refusal: Refusal, count: usize) -> Checked
     }
 }
 
-// The check of a document with a lent key table: the verdict, and the number of pairs. Each immediate key passed before the
-// end or the refusal has its pair in the table, the start and the length of its text; all other words keep what they held.
-pub fn check(doc: &[u8], keys: &mut [u32]) -> Checked
-    ensures { λ r. ⌜ toldChecked r (now (keys .exit)) ≡ checked (now (doc .entry)) (now (keys .entry)) ⌝ }
+// The check of the document alone, with a key list of so many names.
+fn check_document(doc: &[u8], names: usize, keys: &mut [u32]) -> Checked
+    ensures { λ r. ⌜ toldChecked r (now (keys .exit)) ≡ checkedBy (now (keys .entry)) (document (roomOf (now (keys .entry))) (now (doc .entry)) names []) ⌝ }
 {
     let h = read_header(doc);
     match h {
         Verdict::Refused(r) => refuse(r, 0),
         Verdict::Accepted => {
-            let w = start::walk_root(doc, keys);
+            let w = start::walk_root(doc, names, keys);
             match w {
                 Walk::Refused { count, refusal } => refuse(refusal, count),
                 Walk::End { count, at } => {

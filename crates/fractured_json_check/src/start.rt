@@ -13,40 +13,40 @@ const SHORT: usize = 256;
 
 const MIDDLE: usize = 2048;
 
-fn walk_short(doc: &[u8], keys: &mut [u32]) -> Walk
+fn walk_short(doc: &[u8], names: usize, keys: &mut [u32]) -> Walk
     requires { ⌜ length (now doc) < 2 ^ 32 ⌝ }
-    ensures { λ r. ⌜ toldWalk r (now (keys .exit)) ≡ walked (now (doc .entry)) (now (keys .entry)) ⌝ }
+    ensures { λ r. ⌜ toldWalk r (now (keys .exit)) ≡ walked (now (doc .entry)) names (now (keys .entry)) ⌝ }
 {
     let mut links = [0u16; 128];
-    contents(doc, keys, &mut links, 0, 3, 1, false, DEEPEST)
+    contents(doc, names, keys, &mut links, 0, 3, 1, false, DEEPEST)
 }
 
-fn walk_middle(doc: &[u8], keys: &mut [u32]) -> Walk
+fn walk_middle(doc: &[u8], names: usize, keys: &mut [u32]) -> Walk
     requires { ⌜ length (now doc) < 2 ^ 32 ⌝ }
-    ensures { λ r. ⌜ toldWalk r (now (keys .exit)) ≡ walked (now (doc .entry)) (now (keys .entry)) ⌝ }
+    ensures { λ r. ⌜ toldWalk r (now (keys .exit)) ≡ walked (now (doc .entry)) names (now (keys .entry)) ⌝ }
 {
     let mut links = [0u16; 1024];
-    contents(doc, keys, &mut links, 0, 3, 1, false, DEEPEST)
+    contents(doc, names, keys, &mut links, 0, 3, 1, false, DEEPEST)
 }
 
-fn walk_long(doc: &[u8], keys: &mut [u32]) -> Walk
+fn walk_long(doc: &[u8], names: usize, keys: &mut [u32]) -> Walk
     requires { ⌜ length (now doc) < 2 ^ 32 ⌝ }
-    ensures { λ r. ⌜ toldWalk r (now (keys .exit)) ≡ walked (now (doc .entry)) (now (keys .entry)) ⌝ }
+    ensures { λ r. ⌜ toldWalk r (now (keys .exit)) ≡ walked (now (doc .entry)) names (now (keys .entry)) ⌝ }
 {
     let mut links = [0u16; 8192];
-    contents(doc, keys, &mut links, 0, 3, 1, false, DEEPEST)
+    contents(doc, names, keys, &mut links, 0, 3, 1, false, DEEPEST)
 }
 
-pub(crate) fn walk_root(doc: &[u8], keys: &mut [u32]) -> Walk
+pub(crate) fn walk_root(doc: &[u8], names: usize, keys: &mut [u32]) -> Walk
     requires { ⌜ length (now doc) < 2 ^ 32 ⌝ }
-    ensures { λ r. ⌜ toldWalk r (now (keys .exit)) ≡ walked (now (doc .entry)) (now (keys .entry)) ⌝ }
+    ensures { λ r. ⌜ toldWalk r (now (keys .exit)) ≡ walked (now (doc .entry)) names (now (keys .entry)) ⌝ }
 {
     let len = doc.len();
     if len < SHORT {
-        return walk_short(doc, keys);
+        return walk_short(doc, names, keys);
     }
     if len < MIDDLE {
-        return walk_middle(doc, keys);
+        return walk_middle(doc, names, keys);
     }
-    walk_long(doc, keys)
+    walk_long(doc, names, keys)
 }

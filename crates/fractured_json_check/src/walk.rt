@@ -1,4 +1,5 @@
-// The check's walk over a value: depth by calls, with the levels left falling, entries by a loop.
+// The check's walk over a value, with a key list of so many names: depth by calls, with the levels left falling, entries by a
+// loop.
 use crate::keys::check_key;
 use crate::keys::is_known;
 use fractured_json_values::types::head_of;
@@ -21,6 +22,7 @@ pub enum Walk {
 // The value at a place, with `count` keys passed and so many levels left for containers.
 fn value(
     doc: &[u8],
+    names: usize,
     keys: &mut [u32],
     links: &mut [u16],
     count: usize,
@@ -28,7 +30,7 @@ fn value(
     levels: usize,
 ) -> Walk
     requires { ⌜ length (now doc) < 2 ^ 32 ⌝ }
-    ensures { λ r. ⌜ out r (now (keys .exit)) (now (links .exit)) ≡ valueBy (keyIn (now (doc .entry))) levels (now (doc .entry)) at (table count (now (keys .entry)) (now (links .entry))) ⌝ }
+    ensures { λ r. ⌜ out r (now (keys .exit)) (now (links .exit)) ≡ valueBy (keyIn (now (doc .entry)) names) levels (now (doc .entry)) at (table count (now (keys .entry)) (now (links .entry))) ⌝ }
 {
     if doc.len() <= at {
         return Walk::Refused {
@@ -58,7 +60,7 @@ fn value(
                     },
                 };
             }
-            contents(doc, keys, links, count, first, n, object, levels - 1)
+            contents(doc, names, keys, links, count, first, n, object, levels - 1)
         }
     }
 }
@@ -67,6 +69,7 @@ fn value(
 // entry of such an array.
 pub(crate) fn contents(
     doc: &[u8],
+    names: usize,
     keys: &mut [u32],
     links: &mut [u16],
     passed: usize,
@@ -76,13 +79,13 @@ pub(crate) fn contents(
     below: usize,
 ) -> Walk
     requires { ⌜ length (now doc) < 2 ^ 32 ⌝ }
-    ensures { λ r. ⌜ out r (now (keys .exit)) (now (links .exit)) ≡ inTurn (entryBy object (keyIn (now (doc .entry))) (valueBy (keyIn (now (doc .entry))) below (now (doc .entry)))) n first (table passed (now (keys .entry)) (now (links .entry))) ⌝ }
+    ensures { λ r. ⌜ out r (now (keys .exit)) (now (links .exit)) ≡ inTurn (entryBy object (keyIn (now (doc .entry)) names) (valueBy (keyIn (now (doc .entry)) names) below (now (doc .entry)))) n first (table passed (now (keys .entry)) (now (links .entry))) ⌝ }
 {
     let mut at = first;
     let mut count = passed;
     let mut left = n;
     while 0 < left {
-        let w = entry(doc, keys, links, count, at, object, below);
+        let w = entry(doc, names, keys, links, count, at, object, below);
         match w {
             Walk::End { count: c, at: a } => {
                 at = a;
@@ -100,6 +103,7 @@ pub(crate) fn contents(
 // One entry: a value, in an object after its key.
 fn entry(
     doc: &[u8],
+    names: usize,
     keys: &mut [u32],
     links: &mut [u16],
     count: usize,
@@ -108,18 +112,19 @@ fn entry(
     below: usize,
 ) -> Walk
     requires { ⌜ length (now doc) < 2 ^ 32 ⌝ }
-    ensures { λ r. ⌜ out r (now (keys .exit)) (now (links .exit)) ≡ entryBy object (keyIn (now (doc .entry))) (valueBy (keyIn (now (doc .entry))) below (now (doc .entry))) at (table count (now (keys .entry)) (now (links .entry))) ⌝ }
+    ensures { λ r. ⌜ out r (now (keys .exit)) (now (links .exit)) ≡ entryBy object (keyIn (now (doc .entry)) names) (valueBy (keyIn (now (doc .entry)) names) below (now (doc .entry))) at (table count (now (keys .entry)) (now (links .entry))) ⌝ }
 {
-    let k = keyed(doc, keys, links, count, at, object);
+    let k = keyed(doc, names, keys, links, count, at, object);
     match k {
         Walk::Refused { count: c, refusal } => Walk::Refused { count: c, refusal },
-        Walk::End { count: c, at: v } => value(doc, keys, links, c, v, below),
+        Walk::End { count: c, at: v } => value(doc, names, keys, links, c, v, below),
     }
 }
 
 // Where the value of an entry starts: in an object after its key.
 fn keyed(
     doc: &[u8],
+    names: usize,
     keys: &mut [u32],
     links: &mut [u16],
     count: usize,
@@ -127,13 +132,13 @@ fn keyed(
     object: bool,
 ) -> Walk
     requires { ⌜ length (now doc) < 2 ^ 32 ⌝ }
-    ensures { λ r. ⌜ out r (now (keys .exit)) (now (links .exit)) ≡ keyedIn object (now (doc .entry)) at (table count (now (keys .entry)) (now (links .entry))) ⌝ }
+    ensures { λ r. ⌜ out r (now (keys .exit)) (now (links .exit)) ≡ keyedIn object (now (doc .entry)) names at (table count (now (keys .entry)) (now (links .entry))) ⌝ }
 {
     if object {
-        if is_known(doc, count, at) {
+        if is_known(doc, names, count, at) {
             return Walk::End { count, at: at + 1 };
         }
-        return check_key(doc, keys, links, count, at);
+        return check_key(doc, names, keys, links, count, at);
     }
     Walk::End { count, at }
 }

@@ -14,7 +14,7 @@ use Rattle.json.specs.Tree.{Tree, num, str, arr, obj, Trees, Members, size, siz
 use Rattle.json.proofs.Reading.{then, stops, pass, fail, need-yes}
 use Rattle.json.proofs.Tree.{element-at, member-at, member-below, subtree-depth}
 use Rattle.fractured_json_rules.specs.Meaning.{Names, Lists, noKey, Keys, afterLength, Means}
-use Rattle.fractured_json_rules.specs.Verdict.{checkKey, check, verdict, keysOf}
+use Rattle.fractured_json_rules.specs.Verdict.{checkKey, document, check, verdict, keysOf}
 use Rattle.fractured_json_rules.specs.KeyTable.{roomOf, keyOf, checked}
 use Rattle.fractured_json_rules.specs.TreeOf.{treeOf, lengthIn, keyEnd}
 use Rattle.fractured_json_rules.specs.Leads.{elementPlace, keyPlace, Leads, element, value, StandsFor}
@@ -37,7 +37,7 @@ use Rattle.fractured_json_rules.proofs.Questions.{opening-is, asked, ki
 -- ---- Demand 2: a document is accepted exactly if it keeps the format's rules, with room for its keys in the table lent.
 
 pub accepted-keys : (room : ℕ) (doc list : List ℕ) (t : Tree) (m : Means doc list t) → length (m .keys) ≤ room → verdict room doc list ≡ done tt (m .keys)
-unfolding check
+unfolding check document
 accepted-keys room doc list t m r =
     then _ _ [] (list-is list (m .names) [] (m .listed))
     ∙ (then _ _ [] (header-is doc [] (m .headed))

@@ -17,7 +17,7 @@ use Rattle.fractured_json_rules.specs.ByteTables.{formOf, keyFormOf}
 use Rattle.fractured_json_rules.specs.Meaning.{Names, Lists}
 use Rattle.fractured_json_rules.specs.KeyList.{met, namesFrom, keyList, noNames, steps, nameOf}
 use Rattle.fractured_json_rules.specs.Verdict.{header, byteAt, payload, lengthAt, textAt, afterSecond, afterFirst, keyNumberAt, inTurn, member, valueBy, value}
-use Rattle.fractured_json_rules.specs.Verdict.{keyBy, newKey, oldKey, listedKey, checkKey, check, verdict}
+use Rattle.fractured_json_rules.specs.Verdict.{keyBy, newKey, oldKey, listedKey, checkKey, document, check, verdict}
 use Rattle.fractured_json_rules.specs.KeyTable.{roomOf, stored, Checked, checked}
 use Rattle.fractured_json_rules.specs.Questions.{opening, typeAt, theDocument, theList, KeyRead, textKey, backKey, nameKey, readKey, passKey, endOf, Kind, isNull, isFalse, isTrue, isNumber}
 use Rattle.fractured_json_rules.specs.Questions.{isString, isObject, isArray, kindBy, kind, numberBy, wantedBy, wantedAt, stringBytes}
@@ -178,12 +178,12 @@ examples =
 
 pub check-says : map (λ e. checked (e .doc) (e .list) (e .lent)) examples ≡ map (λ e. e .says) examples
 unfolding follow _>>=_ need choose number finite byNumbers compareTexts formOf keyFormOf header byteAt payload lengthAt textAt afterSecond afterFirst keyNumberAt
-    inTurn member valueBy value keyBy met namesFrom keyList newKey oldKey listedKey checkKey check roomOf stored
+    inTurn member valueBy value keyBy met namesFrom keyList newKey oldKey listedKey checkKey document check roomOf stored
 check-says = refl
 
 -- 32: over 65,536 bytes
 pub too-long : (room : ℕ) (doc list : List ℕ) (names : Names) → Lists list names → longest < length doc → verdict room doc list ≡ halt 32 (length doc) []
-unfolding check header
+unfolding check document header
 too-long room doc list names l h =
     let long : leastFractured ≤ length doc = omega arith in
     then _ _ [] (list-is list names [] l) ∙ stops _ _ [] (pass _ _ _ _ [] (le→leb _ _ long) ∙ fail _ _ _ _ [] (λ t. let s = leb→le (length doc) longest t in omega arith))

@@ -14,7 +14,7 @@ use Rattle.fractured_json_rules.specs.ByteTables.{Len, tiny, after, Form
 use Rattle.fractured_json_rules.specs.ByteTables.{KeyNumber, inByte, spelled, KeyForm, immediate, backReference, globalIndex, kReserved, keyFormOf}
 use Rattle.fractured_json_rules.specs.Meaning.{noKey, Keys}
 use Rattle.fractured_json_rules.specs.Verdict.{header, byteAt, payload, lengthAt, textAt, Numeral, afterSecond, afterFirst, keyNumberAt, inTurn, member, valueBy}
-use Rattle.fractured_json_rules.specs.Verdict.{value, keyBy, newKey, oldKey, listedKey, checkKey, check, verdict, keysOf}
+use Rattle.fractured_json_rules.specs.Verdict.{value, keyBy, newKey, oldKey, listedKey, checkKey, document, check, verdict, keysOf}
 use Rattle.fractured_json_rules.specs.KeyList.{namesFrom, countIn, keyList}
 use Rattle.fractured_json_rules.specs.KeyTable.{roomOf, pairs, stored, keyOf}
 use Rattle.fractured_json_rules.proofs.Readers.{kept-is, keep-is}
@@ -151,7 +151,7 @@ module _ (room : ℕ) where
         keeps-then _ _ (keeps-byte _ _) (λ b. keeps-by o _ _ (λ n. keeps-turns _ (keeps-value names l) (n .is) (n .past)) (λ n. keeps-turns _ (keeps-member names _ (keeps-value names l)) (n .is) (n .past)) (formOf b))
 
     keeps-check : (list : List ℕ) → Keeps (check room doc list)
-    unfolding check
+    unfolding check document
     keeps-check list = keeps-then _ _ (keeps-list list) λ _. keeps-then _ _ keeps-header λ _. keeps-then _ _ (keeps-value (countIn list) deepest 3) λ past. keeps-need _ _ _
 
 -- the keys passed are at most the room, refused or not

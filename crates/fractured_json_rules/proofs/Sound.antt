@@ -19,7 +19,7 @@ use Rattle.fractured_json_rules.specs.ByteTables.{Width, bytes, Form, fN
 use Rattle.fractured_json_rules.specs.ByteTables.{KeyForm, immediate, backReference, globalIndex, kReserved, keyFormOf}
 use Rattle.fractured_json_rules.specs.Meaning.{afterLength, intTree, tinyTree, NumberIs, asTiny, asInt, asFloat, Names, noKey, Keys, keyText, KeyIs, asText}
 use Rattle.fractured_json_rules.specs.Meaning.{asBack, asGlobal, ValueIs, ValuesAre, MembersAre, Lists, Headed, Means}
-use Rattle.fractured_json_rules.specs.Verdict.{Numeral, numeral, textAt, inTurn, member, valueBy, value, keyBy, newKey, oldKey, listedKey, checkKey, check, verdict}
+use Rattle.fractured_json_rules.specs.Verdict.{Numeral, numeral, textAt, inTurn, member, valueBy, value, keyBy, newKey, oldKey, listedKey, checkKey, document, check, verdict}
 use Rattle.fractured_json_rules.proofs.Keys.{met-fresh}
 use Rattle.fractured_json_rules.proofs.KeyList.{list-step}
 use Rattle.fractured_json_rules.proofs.Readers.{kept-is, keep-is, header-step, last-test, byte-step, payload-step, length-step, text-step, key-number-step}
@@ -197,7 +197,7 @@ module _ (room : ℕ) (doc list : List ℕ) where
   found-means names l o e kz f past = (f .tree, record { names = names; listed = l; headed = o; keys = kz; root = rw past at (f .here); nested = f .shallow }, refl)
 
   pub sound : (kz : Keys) → verdict room doc list ≡ done tt kz → (t : Tree) × (m : Means doc list t) × (m .keys ≡ kz)
-  unfolding check
+  unfolding check document
   sound kz e =
       let ((names, l), e0) = list-step list _ [] e in
       let (o, e1) = header-step doc _ [] e0 in

@@ -165,12 +165,18 @@ checkKey room doc names o = do
 
 -- ---- the whole check
 
+-- of the document, with a list of so many names
+unfoldable pub document : ℕ → List ℕ → ℕ → Reading Keys (Unit {0})
+document room doc names = do
+  header doc
+  end ← value (checkKey room doc names) deepest doc 3
+  need (eqb end (length doc)) 42 end
+
+-- of the key list, and then of the document
 unfoldable pub check : ℕ → List ℕ → List ℕ → Reading Keys (Unit {0})
 check room doc list = do
   keyList list
-  header doc
-  end ← value (checkKey room doc (countIn list)) deepest doc 3
-  need (eqb end (length doc)) 42 end
+  document room doc (countIn list)
 
 -- the verdict, with the immediate keys passed before the end or the refusal
 abbrev pub verdict : ℕ → List ℕ → List ℕ → Outcome Keys (Unit {0})

@@ -27,5 +27,5 @@ pub bench-says :
     ∷ "frames\n1 hex\n2 F ok\ntotal 2 ok 1\n"
     ∷ "frames\n1 B no 1 1\n2 F no 31 2\n3 F no 31 3\n4 B no 1 2\ntotal 4 ok 0\n"
     ∷ [])
-unfolding follow _>>=_ need choose number finite byNumbers compareTexts B.index B.count B.slot B.text B.content B.numbers B.kindOf B.typeOf BV.header BV.ascends BV.slotRules BV.slots BV.slotNamed BV.numberNamed BV.keyEntries BV.entryBy BV.entry BV.entries BV.containerBy BV.container BV.scalar BV.rootBy BV.check F.formOf F.keyFormOf FV.header FV.byteAt FV.payload FV.lengthAt FV.textAt FV.afterSecond FV.afterFirst FV.keyNumberAt FV.inTurn FV.member FV.valueBy FV.value FV.keyBy FL.met FL.namesFrom FL.keyList FV.newKey FV.oldKey FV.listedKey FV.checkKey FV.check nibble bytesOf isFractured frameOf answerOf digits decimal verdictText said answerText totalText linesFrom answersFrom benchText
+unfolding follow _>>=_ need choose number finite byNumbers compareTexts B.index B.count B.slot B.text B.content B.numbers B.kindOf B.typeOf BV.header BV.ascends BV.slotRules BV.slots BV.slotNamed BV.numberNamed BV.keyEntries BV.entryBy BV.entry BV.entries BV.containerBy BV.container BV.scalar BV.rootBy BV.check F.formOf F.keyFormOf FV.header FV.byteAt FV.payload FV.lengthAt FV.textAt FV.afterSecond FV.afterFirst FV.keyNumberAt FV.inTurn FV.member FV.valueBy FV.value FV.keyBy FL.met FL.namesFrom FL.keyList FV.newKey FV.oldKey FV.listedKey FV.checkKey FV.document FV.check nibble bytesOf isFractured frameOf answerOf digits decimal verdictText said answerText totalText linesFrom answersFrom benchText
 bench-says = refl

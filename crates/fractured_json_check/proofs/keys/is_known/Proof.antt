@@ -23,7 +23,10 @@ returns-3 c = search known-laws
 returns-4 : tie.Need-returns-4
 returns-4 c = search known-laws
 
+returns-5 : tie.Need-returns-5
+returns-5 c = search known-laws
+
 pub is-known-spec : {M : Type 1} → statement M
 is-known-spec =
     tie.close
-    (tie.spec returns shared-slice-read-key-head key-head-requires returns-2 returns-3 returns-4)
+    (tie.spec returns shared-slice-read-key-head key-head-requires returns-2 returns-3 returns-4 returns-5)

@@ -26,7 +26,10 @@ returns-3 c = search numbered-laws
 returns-4 : tie.Need-returns-4
 returns-4 c = search numbered-laws
 
+returns-5 : tie.Need-returns-5
+returns-5 c = search numbered-laws
+
 pub numbered-spec : {M : Type 1} → statement M
 numbered-spec =
     tie.close
-    (tie.spec new-key-requires same-length same-length-2 returns returns-2 returns-3 returns-4)
+    (tie.spec new-key-requires same-length same-length-2 returns returns-2 returns-3 returns-4 returns-5)

@@ -24,13 +24,13 @@ use Rattle.fractured_json_check.proofs.walk.+contents+entry+value.{stat
 use Rattle.fractured_json_check.proofs.walk.+contents+entry+value.Tie.{close}
 
 abbrev μ-contents : Measures 3 contents-kinds.ps ℕ
-μ-contents κs a = 3 * a .1 .1 .1 .1 .1 .1 .1 .0 + 2
+μ-contents κs a = 3 * a .1 .1 .1 .1 .1 .1 .1 .1 .0 + 2
 
 abbrev μ-entry : Measures 3 entry-kinds.ps ℕ
-μ-entry κs a = 3 * a .1 .1 .1 .1 .1 .1 .0 + 1
+μ-entry κs a = 3 * a .1 .1 .1 .1 .1 .1 .1 .0 + 1
 
 abbrev μ-value : Measures 3 value-kinds.ps ℕ
-μ-value κs a = 3 * a .1 .1 .1 .1 .1 .0
+μ-value κs a = 3 * a .1 .1 .1 .1 .1 .1 .0
 
 abbrev contents-at : ℕ → In 3 contents-kinds.ps
 contents-at t = and 3 contents-kinds.ps (is 3 contents-kinds.ps μ-contents t) contents.Pre
@@ -52,13 +52,13 @@ abbrev value-below : ℕ → In 3 value-kinds.ps
 value-below t = and 3 value-kinds.ps (falls 3 value-kinds.ps _<_ μ-value t) value.Pre
 
 abbrev contents-Inv-loop : contents-lts.InvT-loop
-contents-Inv-loop doc keys₀ links₀ passed first n object below at₀ count₀ left₀ keys links at count left =
+contents-Inv-loop doc names keys₀ links₀ passed first n object below at₀ count₀ left₀ keys links at count left =
     (length keys ≡ length keys₀)
     × (length links ≡ length links₀)
-    × (inTurn (entryBy object (keyIn doc) (valueBy (keyIn doc) below doc)) left at (table count keys links) ≡ inTurn (entryBy object (keyIn doc) (valueBy (keyIn doc) below doc)) n first (table passed keys₀ links₀))
+    × (inTurn (entryBy object (keyIn doc names) (valueBy (keyIn doc names) below doc)) left at (table count keys links) ≡ inTurn (entryBy object (keyIn doc names) (valueBy (keyIn doc names) below doc)) n first (table passed keys₀ links₀))
 
 abbrev contents-μ-loop : contents-lts.MeasureT-loop
-contents-μ-loop doc keys₀ links₀ passed first n object below at₀ count₀ left₀ keys links at count left = left
+contents-μ-loop doc names keys₀ links₀ passed first n object below at₀ count₀ left₀ keys links at count left = left
 
 contents-loop-holds :
     (t : ℕ) →

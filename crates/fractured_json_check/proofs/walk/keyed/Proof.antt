@@ -9,8 +9,8 @@ use Rattle.fractured_json_check.proofs.keys.is_known.Reads as is-known-
 is-known-requires : tie.Need-is-known-requires
 is-known-requires c κs = search keyed-laws
 
-add-t9 : tie.Need-add-t9
-add-t9 c = search keyed-laws
+add-t10 : tie.Need-add-t10
+add-t10 c = search keyed-laws
 
 returns : tie.Need-returns
 returns c = search keyed-laws
@@ -35,7 +35,7 @@ keyed-spec =
     tie.close
     (tie.spec
     is-known-requires
-    add-t9
+    add-t10
     returns
     check-key-requires
     same-length

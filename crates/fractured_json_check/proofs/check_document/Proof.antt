@@ -1,9 +1,9 @@
 use Rattle.fractured_json_check.proofs.Checks.{check-laws}
 use borrow.Author.Needs.{needs}
-use Rattle.fractured_json_check.proofs.check.Statement.{statement}
-use Rattle.fractured_json_check.proofs.check.Tie as tie
-use Rattle.fractured_json_check.proofs.check.Reads as reads
-use Rattle.fractured_json_check.proofs.check.Lts as lts
+use Rattle.fractured_json_check.proofs.check_document.Statement.{statement}
+use Rattle.fractured_json_check.proofs.check_document.Tie as tie
+use Rattle.fractured_json_check.proofs.check_document.Reads as reads
+use Rattle.fractured_json_check.proofs.check_document.Lts as lts
 use Rattle.fractured_json_check.proofs.refuse.Reads as refuse-reads
 use Rattle.fractured_json_check.proofs.start.walk_root.Reads as walk-root-reads
 use Rattle.fractured_json_values.proofs.header.read_header.Reads as read-header-reads
@@ -56,8 +56,8 @@ same-length-3 c = search needs
 returns-4 : tie.Need-returns-4
 returns-4 c = search check-laws
 
-pub check-spec : {M : Type 1} → statement M
-check-spec =
+pub check-document-spec : {M : Type 1} → statement M
+check-document-spec =
     tie.close
     (tie.spec
     read-header-requires
