@@ -9,8 +9,9 @@ use Rattle.fractured_json_answers.specs.declared.Number.{Number}
 use Rattle.fractured_json_answers.specs.declared.Text.{Text}
 use Rattle.fractured_json_answers.specs.declared.Member.{Member}
 use Rattle.fractured_json_answers.specs.declared.Found.{Found}
-use Rattle.fractured_json_answers.specs.Told.{toldPlace, toldKind, toldNumber, toldText, toldMember, toldFound}
-use Rattle.encoding.specs.Encoding.{hands, given, coded, one, placeAndLength, kind, bits, keyAndValue, valueAt}
+use Rattle.fractured_json_answers.specs.declared.Key.{Key}
+use Rattle.fractured_json_answers.specs.Told.{toldPlace, toldKind, toldNumber, toldText, toldMember, toldFound, toldKey}
+use Rattle.encoding.specs.Encoding.{hands, given, coded, one, placeAndLength, kind, bits, keyAndValue, valueAt, keyAt}
 
 module _ (words after : List ℕ) (r : ℕ) where
   pub place-case : (a b : Place) → a ≡ b → hands r after ≡ given words (coded one (toldPlace b)) → hands r after ≡ given words (coded one (toldPlace a))
@@ -31,4 +32,7 @@ module _ (words after : List ℕ) (r : ℕ) where
   pub found-case : (a b : Found) → a ≡ b → hands r after ≡ given words (coded valueAt (toldFound b)) → hands r after ≡ given words (coded valueAt (toldFound a))
   found-case a b e g = rw e g
 
-pub ruleset fractured-cases = (place-case, kind-case, number-case, text-case, member-case, found-case, needs)
+  pub key-case : (a b : Key) → a ≡ b → hands r after ≡ given words (coded keyAt (toldKey b)) → hands r after ≡ given words (coded keyAt (toldKey a))
+  key-case a b e g = rw e g
+
+pub ruleset fractured-cases = (place-case, kind-case, number-case, text-case, member-case, found-case, key-case, needs)

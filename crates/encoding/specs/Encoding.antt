@@ -95,6 +95,14 @@ abbrev pub valueAt : Fractured.Found → List ℕ
 valueAt (Fractured.valueAt o) = 1 ∷ o ∷ []
 valueAt Fractured.absent = 0 ∷ []
 
+-- lender (0 the document, 1 the key list), the text's place and length there, and where the value starts
+abbrev pub lenderOf : Fractured.Lender → ℕ
+lenderOf Fractured.theDocument = 0
+lenderOf Fractured.theList = 1
+
+abbrev pub keyAt : Fractured.KeyRead → List ℕ
+keyAt k = lenderOf (k .lender) ∷ k .place ∷ k .len ∷ k .past ∷ []
+
 -- the number of pairs, after the place of a refusal
 abbrev pub checkedBy : ℕ → Asked (Unit {0}) → Coded
 checkedBy count (done u s) = code 0 (count ∷ [])

@@ -1,8 +1,10 @@
 // What a Fractured JSON answer hands over, case by case.
+use crate::words::four;
 use crate::words::one;
 use crate::words::refuse;
 use crate::words::two;
 use fractured_json_answers::Found;
+use fractured_json_answers::Key;
 use fractured_json_answers::Kind;
 use fractured_json_answers::Member;
 use fractured_json_answers::Number;
@@ -13,8 +15,8 @@ ghost use mathlib.Core.Path.{_≡_};
 ghost use Prim.Native.Nat.{_≤_};
 ghost use lib.ListN.{length};
 ghost use Rattle.json.specs.Reading.{told};
-ghost use Rattle.fractured_json_answers.specs.Told.{toldPlace, toldKind, toldNumber, toldText, toldMember, toldFound};
-ghost use Rattle.encoding.specs.Encoding.{hands, given, coded, one, placeAndLength, kind, bits, keyAndValue, valueAt, checkedBy};
+ghost use Rattle.fractured_json_answers.specs.Told.{toldPlace, toldKind, toldNumber, toldText, toldMember, toldFound, toldKey};
+ghost use Rattle.encoding.specs.Encoding.{hands, given, coded, one, placeAndLength, kind, bits, keyAndValue, valueAt, keyAt, checkedBy};
 
 // The number of pairs, after the place of a refusal.
 pub fn give_checked(out: &mut [u64], verdict: Verdict, count: usize) -> u32
@@ -101,5 +103,17 @@ pub fn give_found(out: &mut [u64], answer: Found) -> u32
         Found::At(n) => two(out, 1, n as u64),
         Found::Absent => one(out, 0),
         Found::Refused(r) => refuse(out, r),
+    }
+}
+
+// Lender, place and length of a key's text, and where its value starts.
+pub fn give_key(out: &mut [u64], answer: Key) -> u32
+    requires { ⌜ 4 ≤ length (now out) ⌝ }
+    ensures { λ r. ⌜ hands r (now (out .exit)) ≡ given (now (out .entry)) (coded keyAt (toldKey answer)) ⌝ }
+{
+    match answer {
+        Key::Document { place, len, past } => four(out, 0, place as u64, len as u64, past as u64),
+        Key::List { place, len, past } => four(out, 1, place as u64, len as u64, past as u64),
+        Key::Refused(r) => refuse(out, r),
     }
 }

@@ -32,13 +32,13 @@ pub ruleset handing-laws = (too-few, handed-over, lookup-handed, needs)
 
 -- ---- the check with a key table
 
-module _ (doc keys left words after : List ℕ) (r : ℕ) (c : Checked) (e : toldChecked c left ≡ checked doc keys) (h : 2 ≤ length words) where
+module _ (doc list keys left words after : List ℕ) (r : ℕ) (c : Checked) (e : toldChecked c left ≡ checked doc list keys) (h : 2 ≤ length words) where
   pub check-handed : hands r after ≡ given words (checkedBy (c .count) (told (c .verdict)))
-      → hands r after ≡ handed 2 words (checkedBy (checked doc keys .count) (checked doc keys .verdict))
+      → hands r after ≡ handed 2 words (checkedBy (checked doc list keys .count) (checked doc list keys .verdict))
   unfolding handed choose
   check-handed g = rw (le-ltb (length words) 2 h) (g ∙ ap (λ x. given words (checkedBy (x .count) (x .verdict))) e)
 
-  pub table-left : left ≡ choose (ltb (length words) 2) keys (checked doc keys .words)
+  pub table-left : left ≡ choose (ltb (length words) 2) keys (checked doc list keys .words)
   unfolding choose
   table-left = rw (le-ltb (length words) 2 h) (ap (λ x. x .words) e)
 

@@ -10,6 +10,7 @@ use Rattle.fractured_json_answers.specs.declared.Number.{Number}
 use Rattle.fractured_json_answers.specs.declared.Text.{Text}
 use Rattle.fractured_json_answers.specs.declared.Member.{Member}
 use Rattle.fractured_json_answers.specs.declared.Found.{Found}
+use Rattle.fractured_json_answers.specs.declared.Key.{Key}
 
 abbrev pub toldPlace : Place → Asked ℕ
 toldPlace (Place.At o) = answers o
@@ -41,3 +42,8 @@ abbrev pub toldFound : Found → Asked Questions.Found
 toldFound (Found.At o) = answers (Questions.valueAt o)
 toldFound Found.Absent = answers Questions.absent
 toldFound (Found.Refused r) = refuses (r .number) (r .place)
+
+abbrev pub toldKey : Key → Asked Questions.KeyRead
+toldKey (Key.Document p n e) = answers (record { lender = Questions.theDocument; place = p; len = n; past = e })
+toldKey (Key.List p n e) = answers (record { lender = Questions.theList; place = p; len = n; past = e })
+toldKey (Key.Refused r) = refuses (r .number) (r .place)

@@ -43,3 +43,19 @@ pub enum Found {
     Absent,
     Refused(Refusal),
 }
+
+// A key: where its text stands in the document or in the key list, how long it is, and where the key ends, which is where its value
+// starts.
+pub enum Key {
+    Document {
+        place: usize,
+        len: usize,
+        past: usize,
+    },
+    List {
+        place: usize,
+        len: usize,
+        past: usize,
+    },
+    Refused(Refusal),
+}

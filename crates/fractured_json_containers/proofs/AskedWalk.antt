@@ -10,38 +10,38 @@ use Rattle.json.proofs.Reading.{then, stops}
 use Rattle.fractured_json_rules.specs.Verdict.{inTurn, member, value}
 use Rattle.fractured_json_rules.specs.Questions.{readKey, passKey}
 use Rattle.fractured_json_values.specs.Opened.{openedAt, entry, toldOpen}
-use Rattle.fractured_json_containers.specs.Asked.{toldKey}
+use Rattle.fractured_json_containers.specs.Asked.{ReadsKey}
 use Rattle.fractured_json_answers.specs.Told.{toldPlace}
 use Rattle.fractured_json_answers.specs.declared.Place.{Place}
 use Rattle.fractured_json_values.specs.declared.values.Open.{Open}
 use Rattle.fractured_json_containers.specs.declared.skip.KeyText.{KeyText}
 use Rattle.fractured_json_values.proofs.Walks.{value-leaf, value-halts, value-deep, value-inside, turns-done, turn-passes, turn-halts}
 
-module _ (doc words : List ℕ) (count at levels : ℕ) (o : Open) (os : toldOpen o ≡ ask (openedAt doc at)) where
-  pub leaf-ends : (e : ℕ) → o ≡ Open.Leaf e → answers e ≡ ask (value (passKey doc words count) levels doc at)
-  leaf-ends e h = sym (value-leaf (passKey doc words count) doc at tt levels e (sym os ∙ ap toldOpen h))
+module _ (doc list words : List ℕ) (count at levels : ℕ) (o : Open) (os : toldOpen o ≡ ask (openedAt doc at)) where
+  pub leaf-ends : (e : ℕ) → o ≡ Open.Leaf e → answers e ≡ ask (value (passKey doc list words count) levels doc at)
+  leaf-ends e h = sym (value-leaf (passKey doc list words count) doc at tt levels e (sym os ∙ ap toldOpen h))
 
-  pub open-halts : (r : Refusal) → o ≡ Open.Refused r → refuses (r .number) (r .place) ≡ ask (value (passKey doc words count) levels doc at)
-  open-halts r h = sym (value-halts (passKey doc words count) doc at tt levels _ _ (sym os ∙ ap toldOpen h))
+  pub open-halts : (r : Refusal) → o ≡ Open.Refused r → refuses (r .number) (r .place) ≡ ask (value (passKey doc list words count) levels doc at)
+  open-halts r h = sym (value-halts (passKey doc list words count) doc at tt levels _ _ (sym os ∙ ap toldOpen h))
 
   module _ (b : Bool) (n p : ℕ) (h : o ≡ Open.Container p n b) where
-    pub too-deep : levels ≡ 0 → refuses 41 at ≡ ask (value (passKey doc words count) levels doc at)
-    too-deep z = sym (value-deep (passKey doc words count) doc at tt levels b n p (sym os ∙ ap toldOpen h) z)
+    pub too-deep : levels ≡ 0 → refuses 41 at ≡ ask (value (passKey doc list words count) levels doc at)
+    too-deep z = sym (value-deep (passKey doc list words count) doc at tt levels b n p (sym os ∙ ap toldOpen h) z)
 
-    pub contents-end : (r : Asked ℕ) → (levels ≡ 0 → ⊥) → r ≡ ask (inTurn (entry b (passKey doc words count) (value (passKey doc words count) (levels - 1) doc)) n p)
-        → r ≡ ask (value (passKey doc words count) levels doc at)
-    contents-end r z e = e ∙ sym (value-inside (passKey doc words count) doc at tt levels b n p (sym os ∙ ap toldOpen h) z)
+    pub contents-end : (r : Asked ℕ) → (levels ≡ 0 → ⊥) → r ≡ ask (inTurn (entry b (passKey doc list words count) (value (passKey doc list words count) (levels - 1) doc)) n p)
+        → r ≡ ask (value (passKey doc list words count) levels doc at)
+    contents-end r z e = e ∙ sym (value-inside (passKey doc list words count) doc at tt levels b n p (sym os ∙ ap toldOpen h) z)
 
 pub ruleset skip-laws = (leaf-ends, open-halts, too-deep, contents-end, needs)
 
 -- x is what the entries say from the first one on
-module _ (doc words : List ℕ) (count : ℕ) (object : Bool) (below left at : ℕ) (x : Asked ℕ)
-    (here : ask (inTurn (entry object (passKey doc words count) (value (passKey doc words count) below doc)) left at) ≡ x) where
+module _ (doc list words : List ℕ) (count : ℕ) (object : Bool) (below left at : ℕ) (x : Asked ℕ)
+    (here : ask (inTurn (entry object (passKey doc list words count) (value (passKey doc list words count) below doc)) left at) ≡ x) where
   pub none-left : left ≤ 0 → answers at ≡ x
   none-left h = sym (turns-done _ left at tt h) ∙ here
 
-  module _ (h : 0 < left) (w : Place) (e : toldPlace w ≡ ask (entry object (passKey doc words count) (value (passKey doc words count) below doc) at)) where
-    pub entry-passes : (a : ℕ) → w ≡ Place.At a → ask (inTurn (entry object (passKey doc words count) (value (passKey doc words count) below doc)) (left - 1) a) ≡ x
+  module _ (h : 0 < left) (w : Place) (e : toldPlace w ≡ ask (entry object (passKey doc list words count) (value (passKey doc list words count) below doc) at)) where
+    pub entry-passes : (a : ℕ) → w ≡ Place.At a → ask (inTurn (entry object (passKey doc list words count) (value (passKey doc list words count) below doc)) (left - 1) a) ≡ x
     entry-passes a q = sym (turn-passes _ left at tt a _ h (sym e ∙ ap toldPlace q)) ∙ here
 
     pub entry-refused : (r : Refusal) → w ≡ Place.Refused r → refuses (r .number) (r .place) ≡ x
@@ -50,29 +50,41 @@ module _ (doc words : List ℕ) (count : ℕ) (object : Bool) (below left at : �
 pub ruleset entries-laws = (none-left, entry-passes, entry-refused, needs)
 
 -- the key's end alone
-module _ (doc words : List ℕ) (count at : ℕ) (k : KeyText) (ks : toldKey doc k ≡ ask (readKey doc words count at)) where
-  pub passes-key : (s l p : ℕ) → k ≡ KeyText.At s l p → ask (passKey doc words count at) ≡ answers p
+module _ (doc list words : List ℕ) (count at : ℕ) (k : KeyText) (ks : ReadsKey list (ask (readKey doc list words count at)) k) where
+  pub passes-key : (s l p : ℕ) → k ≡ KeyText.At s l p → ask (passKey doc list words count at) ≡ answers p
   unfolding passKey
-  passes-key s l p q = then _ _ tt (sym ks ∙ ap (toldKey doc) q)
+  passes-key s l p q = let w : ReadsKey list (ask (readKey doc list words count at)) (KeyText.At s l p) = rw q at ks in then _ _ tt w
 
-  pub stops-at-key : (r : Refusal) → k ≡ KeyText.Refused r → ask (passKey doc words count at) ≡ refuses (r .number) (r .place)
+  pub passes-name : (j p : ℕ) → k ≡ KeyText.Name j p → ask (passKey doc list words count at) ≡ answers p
   unfolding passKey
-  stops-at-key r q = stops _ _ tt (sym ks ∙ ap (toldKey doc) q)
+  passes-name j p q = let w : ReadsKey list (ask (readKey doc list words count at)) (KeyText.Name j p) = rw q at ks in then _ _ tt (w .0)
 
-module _ (doc words : List ℕ) (count : ℕ) (object : Bool) (below at : ℕ) where
-  pub as-value : (r : Asked ℕ) → object ≡ false → r ≡ ask (value (passKey doc words count) below doc at)
-      → r ≡ ask (entry object (passKey doc words count) (value (passKey doc words count) below doc) at)
+  pub stops-at-key : (r : Refusal) → k ≡ KeyText.Refused r → ask (passKey doc list words count at) ≡ refuses (r .number) (r .place)
+  unfolding passKey
+  stops-at-key r q = let w : ReadsKey list (ask (readKey doc list words count at)) (KeyText.Refused r) = rw q at ks in stops _ _ tt w
+
+module _ (doc list words : List ℕ) (count : ℕ) (object : Bool) (below at : ℕ) where
+  pub as-value : (r : Asked ℕ) → object ≡ false → r ≡ ask (value (passKey doc list words count) below doc at)
+      → r ≡ ask (entry object (passKey doc list words count) (value (passKey doc list words count) below doc) at)
   unfolding entry
   as-value r e h = rw e h
 
-  module _ (o : object ≡ true) (k : KeyText) (ks : toldKey doc k ≡ ask (readKey doc words count at)) where
-    pub after-key : (s l p : ℕ) (r : Asked ℕ) → k ≡ KeyText.At s l p → r ≡ ask (value (passKey doc words count) below doc p)
-        → r ≡ ask (entry object (passKey doc words count) (value (passKey doc words count) below doc) at)
+  module _ (o : object ≡ true) (k : KeyText) (ks : ReadsKey list (ask (readKey doc list words count at)) k) where
+    after : (p : ℕ) (r : Asked ℕ) → ask (passKey doc list words count at) ≡ answers p → r ≡ ask (value (passKey doc list words count) below doc p)
+        → r ≡ ask (entry object (passKey doc list words count) (value (passKey doc list words count) below doc) at)
     unfolding entry member
-    after-key s l p r q h = rw o (h ∙ sym (then _ _ tt (passes-key doc words count at k ks s l p q)))
+    after p r e h = rw o (h ∙ sym (then _ _ tt e))
 
-    pub key-halts : (r : Refusal) → k ≡ KeyText.Refused r → refuses (r .number) (r .place) ≡ ask (entry object (passKey doc words count) (value (passKey doc words count) below doc) at)
+    pub after-key : (s l p : ℕ) (r : Asked ℕ) → k ≡ KeyText.At s l p → r ≡ ask (value (passKey doc list words count) below doc p)
+        → r ≡ ask (entry object (passKey doc list words count) (value (passKey doc list words count) below doc) at)
+    after-key s l p r q h = after p r (passes-key doc list words count at k ks s l p q) h
+
+    pub after-name : (j p : ℕ) (r : Asked ℕ) → k ≡ KeyText.Name j p → r ≡ ask (value (passKey doc list words count) below doc p)
+        → r ≡ ask (entry object (passKey doc list words count) (value (passKey doc list words count) below doc) at)
+    after-name j p r q h = after p r (passes-name doc list words count at k ks j p q) h
+
+    pub key-halts : (r : Refusal) → k ≡ KeyText.Refused r → refuses (r .number) (r .place) ≡ ask (entry object (passKey doc list words count) (value (passKey doc list words count) below doc) at)
     unfolding entry member
-    key-halts r q = rw o (sym (stops _ _ tt (stops-at-key doc words count at k ks r q)))
+    key-halts r q = rw o (sym (stops _ _ tt (stops-at-key doc list words count at k ks r q)))
 
-pub ruleset entry-laws = (as-value, after-key, key-halts, needs)
+pub ruleset entry-laws = (as-value, after-key, after-name, key-halts, needs)

@@ -5,14 +5,52 @@ use crate::skip::read_key;
 use crate::skip::skip;
 use fractured_json_answers::Found;
 use fractured_json_answers::Place;
+use fractured_json_list::names::name_of;
 use fractured_json_values::texts::text_of;
 use json::Refusal;
 use text::same;
 ghost use mathlib.Core.Path.{_≡_};
 ghost use Rattle.json.specs.Reading.{ask};
 ghost use Rattle.fractured_json_rules.specs.Questions.{findIn};
-ghost use Rattle.fractured_json_containers.specs.Asked.{Looks};
+ghost use Rattle.fractured_json_containers.specs.Asked.{Compares, Looks};
 ghost use Rattle.fractured_json_answers.specs.Told.{toldFound};
+
+// Whether a key has a text, and where it ends.
+pub enum Compared {
+    Same(usize),
+    Other(usize),
+    Refused(Refusal),
+}
+
+// Whether the key at a place has the text `x`.
+fn compare_key(
+    doc: &[u8],
+    list: &[u8],
+    keys: &[u32],
+    count: usize,
+    x: &[u8],
+    at: usize,
+) -> Compared
+    ensures { λ r. ⌜ Compares (now (doc .entry)) (now (list .entry)) (now (keys .entry)) count (now (x .entry)) at r ⌝ }
+{
+    let k = read_key(doc, list, keys, count, at);
+    match k {
+        KeyText::Refused(r) => Compared::Refused(r),
+        KeyText::At { start, len, past } => {
+            if same(text_of(doc, start, len), x) {
+                return Compared::Same(past);
+            }
+            Compared::Other(past)
+        }
+        KeyText::Name { number, past } => {
+            let n = name_of(list, number);
+            if same(text_of(list, n.start, n.len), x) {
+                return Compared::Same(past);
+            }
+            Compared::Other(past)
+        }
+    }
+}
 
 // What one member says of the first member with a key.
 pub enum Look {
@@ -23,20 +61,26 @@ pub enum Look {
 }
 
 // The member at a place, with `later` members after it. After the last key nothing is read.
-fn look_at(doc: &[u8], keys: &[u32], count: usize, x: &[u8], at: usize, later: usize) -> Look
-    ensures { λ r. ⌜ Looks (now (doc .entry)) (now (keys .entry)) count (now (x .entry)) later at r ⌝ }
+fn look_at(
+    doc: &[u8],
+    list: &[u8],
+    keys: &[u32],
+    count: usize,
+    x: &[u8],
+    at: usize,
+    later: usize,
+) -> Look
+    ensures { λ r. ⌜ Looks (now (doc .entry)) (now (list .entry)) (now (keys .entry)) count (now (x .entry)) later at r ⌝ }
 {
-    let k = read_key(doc, keys, count, at);
+    let k = compare_key(doc, list, keys, count, x, at);
     match k {
-        KeyText::Refused(r) => Look::Refused(r),
-        KeyText::At { start, len, past } => {
-            if same(text_of(doc, start, len), x) {
-                return Look::Here(past);
-            }
+        Compared::Refused(r) => Look::Refused(r),
+        Compared::Same(past) => Look::Here(past),
+        Compared::Other(past) => {
             if later == 0 {
                 return Look::Absent;
             }
-            let w = skip(doc, keys, count, past, INNER);
+            let w = skip(doc, list, keys, count, past, INNER);
             match w {
                 Place::Refused(r) => Look::Refused(r),
                 Place::At(next) => Look::Next(next),
@@ -48,18 +92,19 @@ fn look_at(doc: &[u8], keys: &[u32], count: usize, x: &[u8], at: usize, later: u
 // The first member with the key `x` of the `n` members from a place on.
 pub(crate) fn find(
     doc: &[u8],
+    list: &[u8],
     keys: &[u32],
     count: usize,
     x: &[u8],
     n: usize,
     first: usize,
 ) -> Found
-    ensures { λ r. ⌜ toldFound r ≡ ask (findIn (now (doc .entry)) (now (keys .entry)) count (now (x .entry)) n first) ⌝ }
+    ensures { λ r. ⌜ toldFound r ≡ ask (findIn (now (doc .entry)) (now (list .entry)) (now (keys .entry)) count (now (x .entry)) n first) ⌝ }
 {
     let mut at = first;
     let mut left = n;
     while 0 < left {
-        let l = look_at(doc, keys, count, x, at, left - 1);
+        let l = look_at(doc, list, keys, count, x, at, left - 1);
         match l {
             Look::Here(p) => {
                 return Found::At(p);

@@ -1,5 +1,5 @@
-// The questions that go by the key table: where a value ends, an element, a member, and the first member by its key. Each is right
-// for all bytes, cursors, key tables and counts, and reads only what it needs, in the order of the rules.
+// The questions that go by the key table: where a value ends, an element, a member, the first member by its key, and a key. Each is
+// right for all bytes, key lists, cursors, key tables and counts, and reads only what it needs, in the order of the rules.
 use crate::lookup::find;
 use crate::skip::INNER;
 use crate::skip::KeyText;
@@ -7,18 +7,21 @@ use crate::skip::read_key;
 use crate::skip::skip;
 use crate::skip::skip_entries;
 use fractured_json_answers::Found;
+use fractured_json_answers::Key;
 use fractured_json_answers::Member;
 use fractured_json_answers::Place;
+use fractured_json_list::names::name_of;
 use fractured_json_scalars::enter::open_question;
 use fractured_json_scalars::enter::wanted;
+use fractured_json_values::texts::text_of;
 use fractured_json_values::values::Numeral;
 use json::Refusal;
 use json::Verdict;
 use json::limits::DEEPEST;
 ghost use mathlib.Core.Path.{_≡_};
 ghost use Rattle.json.specs.Reading.{ask};
-ghost use Rattle.fractured_json_rules.specs.Questions.{endOf, elementFrom, elementAt, memberFrom, memberAt, firstMember};
-ghost use Rattle.fractured_json_answers.specs.Told.{toldPlace, toldMember, toldFound};
+ghost use Rattle.fractured_json_rules.specs.Questions.{endOf, elementFrom, elementAt, memberFrom, memberAt, firstMember, keyAt, keyBytes};
+ghost use Rattle.fractured_json_answers.specs.Told.{toldPlace, toldMember, toldFound, toldKey};
 
 // The kinds that a length is asked of.
 const OBJECT: u8 = 9;
@@ -26,19 +29,20 @@ const OBJECT: u8 = 9;
 const ARRAY: u8 = 10;
 
 // Where the value at the cursor ends.
-pub fn end(doc: &[u8], keys: &[u32], count: usize, at: usize) -> Place
-    ensures { λ r. ⌜ toldPlace r ≡ ask (endOf (now (doc .entry)) (now (keys .entry)) count at) ⌝ }
+pub fn end(doc: &[u8], list: &[u8], keys: &[u32], count: usize, at: usize) -> Place
+    ensures { λ r. ⌜ toldPlace r ≡ ask (endOf (now (doc .entry)) (now (list .entry)) (now (keys .entry)) count at) ⌝ }
 {
-    let o = open_question(doc, at);
+    let o = open_question(doc, list, at);
     match o {
         Verdict::Refused(r) => Place::Refused(r),
-        Verdict::Accepted => skip(doc, keys, count, at, DEEPEST),
+        Verdict::Accepted => skip(doc, list, keys, count, at, DEEPEST),
     }
 }
 
 // Element i of the array at the cursor, whose n values start at `first`.
 fn element_from(
     doc: &[u8],
+    list: &[u8],
     keys: &[u32],
     count: usize,
     at: usize,
@@ -46,7 +50,7 @@ fn element_from(
     n: usize,
     first: usize,
 ) -> Place
-    ensures { λ r. ⌜ toldPlace r ≡ ask (elementFrom (now (doc .entry)) (now (keys .entry)) count at i n first) ⌝ }
+    ensures { λ r. ⌜ toldPlace r ≡ ask (elementFrom (now (doc .entry)) (now (list .entry)) (now (keys .entry)) count at i n first) ⌝ }
 {
     if n <= i {
         return Place::Refused(Refusal {
@@ -54,23 +58,24 @@ fn element_from(
             place: at,
         });
     }
-    skip_entries(doc, keys, count, first, i, false, INNER)
+    skip_entries(doc, list, keys, count, first, i, false, INNER)
 }
 
 // Where element i of the array at the cursor stands.
-pub fn element(doc: &[u8], keys: &[u32], count: usize, at: usize, i: usize) -> Place
-    ensures { λ r. ⌜ toldPlace r ≡ ask (elementAt (now (doc .entry)) (now (keys .entry)) count at i) ⌝ }
+pub fn element(doc: &[u8], list: &[u8], keys: &[u32], count: usize, at: usize, i: usize) -> Place
+    ensures { λ r. ⌜ toldPlace r ≡ ask (elementAt (now (doc .entry)) (now (list .entry)) (now (keys .entry)) count at i) ⌝ }
 {
-    let n = wanted(doc, at, ARRAY);
+    let n = wanted(doc, list, at, ARRAY);
     match n {
         Numeral::Refused(r) => Place::Refused(r),
-        Numeral::Is { number, past } => element_from(doc, keys, count, at, i, number, past),
+        Numeral::Is { number, past } => element_from(doc, list, keys, count, at, i, number, past),
     }
 }
 
 // Member j of the object at the cursor, whose n members start at `first`.
 fn member_from(
     doc: &[u8],
+    list: &[u8],
     keys: &[u32],
     count: usize,
     at: usize,
@@ -78,7 +83,7 @@ fn member_from(
     n: usize,
     first: usize,
 ) -> Member
-    ensures { λ r. ⌜ toldMember r ≡ ask (memberFrom (now (doc .entry)) (now (keys .entry)) count at j n first) ⌝ }
+    ensures { λ r. ⌜ toldMember r ≡ ask (memberFrom (now (doc .entry)) (now (list .entry)) (now (keys .entry)) count at j n first) ⌝ }
 {
     if n <= j {
         return Member::Refused(Refusal {
@@ -86,11 +91,11 @@ fn member_from(
             place: at,
         });
     }
-    let w = skip_entries(doc, keys, count, first, j, true, INNER);
+    let w = skip_entries(doc, list, keys, count, first, j, true, INNER);
     match w {
         Place::Refused(r) => Member::Refused(r),
         Place::At(o) => {
-            let k = read_key(doc, keys, count, o);
+            let k = read_key(doc, list, keys, count, o);
             match k {
                 KeyText::Refused(r) => Member::Refused(r),
                 KeyText::At {
@@ -101,29 +106,81 @@ fn member_from(
                     key: o,
                     value: past,
                 },
+                KeyText::Name { number: _, past } => Member::At {
+                    key: o,
+                    value: past,
+                },
             }
         }
     }
 }
 
 // Where the key byte and the value of member j of the object at the cursor stand.
-pub fn member(doc: &[u8], keys: &[u32], count: usize, at: usize, j: usize) -> Member
-    ensures { λ r. ⌜ toldMember r ≡ ask (memberAt (now (doc .entry)) (now (keys .entry)) count at j) ⌝ }
+pub fn member(doc: &[u8], list: &[u8], keys: &[u32], count: usize, at: usize, j: usize) -> Member
+    ensures { λ r. ⌜ toldMember r ≡ ask (memberAt (now (doc .entry)) (now (list .entry)) (now (keys .entry)) count at j) ⌝ }
 {
-    let n = wanted(doc, at, OBJECT);
+    let n = wanted(doc, list, at, OBJECT);
     match n {
         Numeral::Refused(r) => Member::Refused(r),
-        Numeral::Is { number, past } => member_from(doc, keys, count, at, j, number, past),
+        Numeral::Is { number, past } => member_from(doc, list, keys, count, at, j, number, past),
     }
 }
 
 // Where the value of the first member with the key `x` of the object at the cursor stands, or absent.
-pub fn first_member(doc: &[u8], keys: &[u32], count: usize, at: usize, x: &[u8]) -> Found
-    ensures { λ r. ⌜ toldFound r ≡ ask (firstMember (now (doc .entry)) (now (keys .entry)) count at (now (x .entry))) ⌝ }
+pub fn first_member(doc: &[u8], list: &[u8], keys: &[u32], count: usize, at: usize, x: &[u8]) -> Found
+    ensures { λ r. ⌜ toldFound r ≡ ask (firstMember (now (doc .entry)) (now (list .entry)) (now (keys .entry)) count at (now (x .entry))) ⌝ }
 {
-    let n = wanted(doc, at, OBJECT);
+    let n = wanted(doc, list, at, OBJECT);
     match n {
         Numeral::Refused(r) => Found::Refused(r),
-        Numeral::Is { number, past } => find(doc, keys, count, x, number, past),
+        Numeral::Is { number, past } => find(doc, list, keys, count, x, number, past),
+    }
+}
+
+// The key at a key byte: where its text stands in the document or in the key list, how long it is, and where the key ends.
+pub fn key(doc: &[u8], list: &[u8], keys: &[u32], count: usize, at: usize) -> Key
+    ensures { λ r. ⌜ toldKey r ≡ ask (keyAt (now (doc .entry)) (now (list .entry)) (now (keys .entry)) count at) ⌝ }
+{
+    let o = open_question(doc, list, at);
+    match o {
+        Verdict::Refused(r) => Key::Refused(r),
+        Verdict::Accepted => {
+            let k = read_key(doc, list, keys, count, at);
+            match k {
+                KeyText::Refused(r) => Key::Refused(r),
+                KeyText::At { start, len, past } => Key::Document {
+                    place: start,
+                    len,
+                    past,
+                },
+                KeyText::Name { number, past } => {
+                    let n = name_of(list, number);
+                    Key::List {
+                        place: n.start,
+                        len: n.len,
+                        past,
+                    }
+                }
+            }
+        }
+    }
+}
+
+// The text of the key at a key byte, as a part of the document or of the key list, whichever holds it: `keyBytes` says which.
+// Empty at a refusal.
+pub fn key_text<'a>(
+    doc: &'a [u8],
+    list: &'a [u8],
+    keys: &[u32],
+    count: usize,
+    at: usize,
+) -> &'a [u8]
+    ensures { λ r. ⌜ now r ≡ keyBytes (now (doc .entry)) (now (list .entry)) (now (keys .entry)) count at ⌝ }
+{
+    let k = key(doc, list, keys, count, at);
+    match k {
+        Key::Refused(_) => text_of(doc, 0, 0),
+        Key::Document { place, len, past: _ } => text_of(doc, place, len),
+        Key::List { place, len, past: _ } => text_of(list, place, len),
     }
 }

@@ -62,9 +62,9 @@ module _ {S : Type 0} (doc : List ℕ) (c : ℕ) where
   wanted-form anArray (fArray x) s = ap (λ m. m s) (length-sized doc c x)
   wanted-form want fReserved s = refl
 
-  pub wanted-is : (want : Wanted) (s : S) → wantedAt doc c want s ≡ wantedIn doc c (wantedKind want) s
+  pub wanted-is : (list : List ℕ) (want : Wanted) (s : S) → wantedAt doc list c want s ≡ wantedIn doc list c (wantedKind want) s
   unfolding wantedAt wantedIn
-  wanted-is want s = then-same _ _ _ s (λ b z. wanted-form want (formOf b) z)
+  wanted-is list want s = then-same _ _ _ s (λ b z. wanted-form want (formOf b) z)
 
   -- ---- a kind
 

@@ -23,22 +23,22 @@ use Rattle.fractured_json_values.proofs.Opening.{numeral-inside}
 
 -- ---- its kind, and its number
 
-module _ (doc : List ℕ) (at : ℕ) (e : Entered) (es : Enters doc at e) where
-  pub kind-refused : (r : Refusal) → e ≡ Entered.Refused r → refuses (r .number) (r .place) ≡ ask (kind doc at)
+module _ (doc list : List ℕ) (at : ℕ) (e : Entered) (es : Enters doc list at e) where
+  pub kind-refused : (r : Refusal) → e ≡ Entered.Refused r → refuses (r .number) (r .place) ≡ ask (kind doc list at)
   unfolding kind
-  kind-refused r q = sym (enters-refused doc at _ e es r q)
+  kind-refused r q = sym (enters-refused doc list at _ e es r q)
 
-  pub kind-read : (b : ℕ) (r : Asked Kind) → e ≡ Entered.Type b → r ≡ ask (kindBy doc at (formOf b)) → r ≡ ask (kind doc at)
+  pub kind-read : (b : ℕ) (r : Asked Kind) → e ≡ Entered.Type b → r ≡ ask (kindBy doc at (formOf b)) → r ≡ ask (kind doc list at)
   unfolding kind
-  kind-read b r q h = h ∙ sym (enters-read doc at (λ x. kindBy doc at (formOf x)) e es b q)
+  kind-read b r q h = h ∙ sym (enters-read doc list at (λ x. kindBy doc at (formOf x)) e es b q)
 
-  pub number-refused : (r : Refusal) → e ≡ Entered.Refused r → refuses (r .number) (r .place) ≡ ask (numberAt doc at)
+  pub number-refused : (r : Refusal) → e ≡ Entered.Refused r → refuses (r .number) (r .place) ≡ ask (numberAt doc list at)
   unfolding numberAt
-  number-refused r q = sym (enters-refused doc at _ e es r q)
+  number-refused r q = sym (enters-refused doc list at _ e es r q)
 
-  pub number-read : (b : ℕ) (r : Asked Bits) → e ≡ Entered.Type b → r ≡ ask (numberBy doc at b (formOf b)) → r ≡ ask (numberAt doc at)
+  pub number-read : (b : ℕ) (r : Asked Bits) → e ≡ Entered.Type b → r ≡ ask (numberBy doc at b (formOf b)) → r ≡ ask (numberAt doc list at)
   unfolding numberAt
-  number-read b r q h = h ∙ sym (enters-read doc at (λ x. numberBy doc at x (formOf x)) e es b q)
+  number-read b r q h = h ∙ sym (enters-read doc list at (λ x. numberBy doc at x (formOf x)) e es b q)
 
 pub ruleset kind-laws = (entered-inside, kind-refused, kind-read, needs)
 
@@ -46,32 +46,32 @@ pub ruleset number-laws = (entered-inside, number-refused, number-read, needs)
 
 -- ---- its string
 
-module _ (doc : List ℕ) (at : ℕ) (c : Numeral) (cs : ReadsNumeral (length doc) (ask (wantedIn doc at 8)) c) where
-  pub string-refused : (r : Refusal) → c ≡ Numeral.Refused r → refuses (r .number) (r .place) ≡ ask (stringAt doc at)
+module _ (doc list : List ℕ) (at : ℕ) (c : Numeral) (cs : ReadsNumeral (length doc) (ask (wantedIn doc list at 8)) c) where
+  pub string-refused : (r : Refusal) → c ≡ Numeral.Refused r → refuses (r .number) (r .place) ≡ ask (stringAt doc list at)
   unfolding stringAt
-  string-refused r q = sym (length-refused doc at aString _ c cs r q)
+  string-refused r q = sym (length-refused doc list at aString _ c cs r q)
 
   module _ (n p : ℕ) (q : c ≡ Numeral.Is n p) where
-    pub text-outside : length doc - p < n → refuses 35 at ≡ ask (stringAt doc at)
+    pub text-outside : length doc - p < n → refuses 35 at ≡ ask (stringAt doc list at)
     unfolding stringAt
     text-outside h =
         let i = numeral-inside (length doc) _ c n p cs q in
-        sym (length-read doc at aString _ c cs n p q ∙ stops _ _ tt (text-past doc at _ tt (omega arith)))
+        sym (length-read doc list at aString _ c cs n p q ∙ stops _ _ tt (text-past doc at _ tt (omega arith)))
 
-    pub text-inside : n ≤ length doc - p → answers (record { place = p; len = n }) ≡ ask (stringAt doc at)
+    pub text-inside : n ≤ length doc - p → answers (record { place = p; len = n }) ≡ ask (stringAt doc list at)
     unfolding stringAt
     text-inside h =
         let i = numeral-inside (length doc) _ c n p cs q in
-        sym (length-read doc at aString _ c cs n p q ∙ then _ _ tt (text-is doc at _ tt (omega arith)))
+        sym (length-read doc list at aString _ c cs n p q ∙ then _ _ tt (text-is doc at _ tt (omega arith)))
 
 pub ruleset string-laws = (numeral-inside, string-refused, text-outside, text-inside, needs)
 
 -- and its text
-module _ (doc : List ℕ) (at : ℕ) (t : Text) (ts : toldText t ≡ ask (stringAt doc at)) where
-  pub no-text : (r : Refusal) (x : List ℕ) → t ≡ Text.Refused r → x ≡ part doc 0 0 → x ≡ stringBytes doc at
-  no-text r x q e = let w : ask (stringAt doc at) ≡ refuses (r .number) (r .place) = sym ts ∙ ap toldText q in rw w e
+module _ (doc list : List ℕ) (at : ℕ) (t : Text) (ts : toldText t ≡ ask (stringAt doc list at)) where
+  pub no-text : (r : Refusal) (x : List ℕ) → t ≡ Text.Refused r → x ≡ part doc 0 0 → x ≡ stringBytes doc list at
+  no-text r x q e = let w : ask (stringAt doc list at) ≡ refuses (r .number) (r .place) = sym ts ∙ ap toldText q in rw w e
 
-  pub text-read : (p n : ℕ) (x : List ℕ) → t ≡ Text.At p n → x ≡ part doc p n → x ≡ stringBytes doc at
-  text-read p n x q e = let w : ask (stringAt doc at) ≡ answers (record { place = p; len = n }) = sym ts ∙ ap toldText q in rw w e
+  pub text-read : (p n : ℕ) (x : List ℕ) → t ≡ Text.At p n → x ≡ part doc p n → x ≡ stringBytes doc list at
+  text-read p n x q e = let w : ask (stringAt doc list at) ≡ answers (record { place = p; len = n }) = sym ts ∙ ap toldText q in rw w e
 
 pub ruleset string-text-laws = (no-text, text-read, needs)

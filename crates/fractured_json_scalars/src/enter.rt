@@ -1,4 +1,5 @@
-// What every question reads first: the header, the cursor, and the type byte that stands there.
+// What every question reads first: the key list, the header, the cursor, and the type byte that stands there.
+use fractured_json_list::check_list;
 use fractured_json_values::header::read_header;
 use fractured_json_values::types::head_of;
 use fractured_json_values::values::Numeral;
@@ -12,21 +13,27 @@ ghost use Rattle.fractured_json_rules.specs.Questions.{opening};
 ghost use Rattle.fractured_json_values.specs.Opened.{ReadsNumeral};
 ghost use Rattle.fractured_json_scalars.specs.Asked.{Enters, wantedIn};
 
-// 31 to 34, then 20 for a cursor under 3.
-pub fn open_question(doc: &[u8], at: usize) -> Verdict
-    ensures { λ r. ⌜ told r ≡ ask (opening (now (doc .entry)) at) ⌝ }
+// 51 to 54, 31 to 34, then 20 for a cursor under 3.
+pub fn open_question(doc: &[u8], list: &[u8], at: usize) -> Verdict
+    ensures { λ r. ⌜ told r ≡ ask (opening (now (doc .entry)) (now (list .entry)) at) ⌝ }
 {
-    let h = read_header(doc);
-    match h {
+    let l = check_list(list);
+    match l {
         Verdict::Refused(r) => Verdict::Refused(r),
         Verdict::Accepted => {
-            if at < 3 {
-                return Verdict::Refused(Refusal {
-                    number: 20,
-                    place: at,
-                });
+            let h = read_header(doc);
+            match h {
+                Verdict::Refused(r) => Verdict::Refused(r),
+                Verdict::Accepted => {
+                    if at < 3 {
+                        return Verdict::Refused(Refusal {
+                            number: 20,
+                            place: at,
+                        });
+                    }
+                    Verdict::Accepted
+                }
             }
-            Verdict::Accepted
         }
     }
 }
@@ -37,10 +44,10 @@ pub enum Entered {
     Refused(Refusal),
 }
 
-pub(crate) fn enter(doc: &[u8], at: usize) -> Entered
-    ensures { λ r. ⌜ Enters (now (doc .entry)) at r ⌝ }
+pub(crate) fn enter(doc: &[u8], list: &[u8], at: usize) -> Entered
+    ensures { λ r. ⌜ Enters (now (doc .entry)) (now (list .entry)) at r ⌝ }
 {
-    let o = open_question(doc, at);
+    let o = open_question(doc, list, at);
     match o {
         Verdict::Refused(r) => Entered::Refused(r),
         Verdict::Accepted => {
@@ -56,10 +63,10 @@ pub(crate) fn enter(doc: &[u8], at: usize) -> Entered
 }
 
 // The length of the string, object or array at the cursor, by the kind that is wanted; 21 of any other kind.
-pub fn wanted(doc: &[u8], at: usize, want: u8) -> Numeral
-    ensures { λ r. ⌜ ReadsNumeral (length (now (doc .entry))) (ask (wantedIn (now (doc .entry)) at want)) r ⌝ }
+pub fn wanted(doc: &[u8], list: &[u8], at: usize, want: u8) -> Numeral
+    ensures { λ r. ⌜ ReadsNumeral (length (now (doc .entry))) (ask (wantedIn (now (doc .entry)) (now (list .entry)) at want)) r ⌝ }
 {
-    let e = enter(doc, at);
+    let e = enter(doc, list, at);
     match e {
         Entered::Refused(r) => Numeral::Refused(r),
         Entered::Type(b) => {

@@ -1,5 +1,5 @@
-// The questions that need no key table: a value's kind, a number, a string and its text. Each is right for all bytes and cursors,
-// and reads only what it needs, in the order of the rules.
+// The questions that need no key table: a value's kind, a number, a string and its text. Each is right for all bytes, key lists and
+// cursors, and reads only what it needs, in the order of the rules.
 use crate::enter::Entered;
 use crate::enter::enter;
 use crate::enter::wanted;
@@ -20,10 +20,10 @@ ghost use Rattle.fractured_json_answers.specs.Told.{toldKind, toldNumber, toldT
 const STRING: u8 = 8;
 
 // What the value at the cursor is, with the length of a string or container.
-pub fn kind(doc: &[u8], at: usize) -> Kind
-    ensures { λ r. ⌜ toldKind r ≡ ask (kindAt (now (doc .entry)) at) ⌝ }
+pub fn kind(doc: &[u8], list: &[u8], at: usize) -> Kind
+    ensures { λ r. ⌜ toldKind r ≡ ask (kindAt (now (doc .entry)) (now (list .entry)) at) ⌝ }
 {
-    let e = enter(doc, at);
+    let e = enter(doc, list, at);
     match e {
         Entered::Refused(r) => Kind::Refused(r),
         Entered::Type(b) => kind_of(doc, at, b),
@@ -31,10 +31,10 @@ pub fn kind(doc: &[u8], at: usize) -> Kind
 }
 
 // The number at the cursor: its type byte and 64 bits.
-pub fn number(doc: &[u8], at: usize) -> Number
-    ensures { λ r. ⌜ toldNumber r ≡ ask (numberAt (now (doc .entry)) at) ⌝ }
+pub fn number(doc: &[u8], list: &[u8], at: usize) -> Number
+    ensures { λ r. ⌜ toldNumber r ≡ ask (numberAt (now (doc .entry)) (now (list .entry)) at) ⌝ }
 {
-    let e = enter(doc, at);
+    let e = enter(doc, list, at);
     match e {
         Entered::Refused(r) => Number::Refused(r),
         Entered::Type(b) => number_of(doc, at, b),
@@ -42,10 +42,10 @@ pub fn number(doc: &[u8], at: usize) -> Number
 }
 
 // The string at the cursor: where its text stands and how long it is.
-pub fn string(doc: &[u8], at: usize) -> Text
-    ensures { λ r. ⌜ toldText r ≡ ask (stringAt (now (doc .entry)) at) ⌝ }
+pub fn string(doc: &[u8], list: &[u8], at: usize) -> Text
+    ensures { λ r. ⌜ toldText r ≡ ask (stringAt (now (doc .entry)) (now (list .entry)) at) ⌝ }
 {
-    let n = wanted(doc, at, STRING);
+    let n = wanted(doc, list, at, STRING);
     match n {
         Numeral::Refused(r) => Text::Refused(r),
         Numeral::Is { number, past } => {
@@ -64,10 +64,10 @@ pub fn string(doc: &[u8], at: usize) -> Text
 }
 
 // The text of the string at the cursor, as a part of the document; empty at a refusal.
-pub fn string_text(doc: &[u8], at: usize) -> &[u8]
-    ensures { λ r. ⌜ now r ≡ stringBytes (now (doc .entry)) at ⌝ }
+pub fn string_text<'a>(doc: &'a [u8], list: &[u8], at: usize) -> &'a [u8]
+    ensures { λ r. ⌜ now r ≡ stringBytes (now (doc .entry)) (now (list .entry)) at ⌝ }
 {
-    let s = string(doc, at);
+    let s = string(doc, list, at);
     match s {
         Text::Refused(_) => text_of(doc, 0, 0),
         Text::At { place, len } => text_of(doc, place, len),

@@ -15,6 +15,7 @@ use Rattle.json.specs.Limits.{longestLine, benchKeys}
 use Rattle.json.specs.Reading.{told}
 use Rattle.json.specs.declared.Verdict.{Verdict}
 use Rattle.binary_json_rules.specs.Verdict as Binary
+use Rattle.fractured_json_rules.specs.KeyList.{noNames}
 use Rattle.fractured_json_rules.specs.Verdict as Fractured
 use Rattle.fractured_json_rules.specs.KeyTable.{roomOf, checked}
 use Rattle.fractured_json_check.specs.Told.{toldChecked}
@@ -51,12 +52,12 @@ room-is : (words : List ℕ) → 2 * benchKeys ≡ length words → roomOf words
 unfolding roomOf
 room-is words l = rw (sym l)
 
-pub with-room : (doc words after : List ℕ) (c : Checked) → toldChecked c after ≡ checked doc words → 2 * benchKeys ≡ length words
-    → told (c .verdict) ≡ Fractured.verdictOf (Fractured.verdict benchKeys doc)
+pub with-room : (doc words after : List ℕ) (c : Checked) → toldChecked c after ≡ checked doc noNames words → 2 * benchKeys ≡ length words
+    → told (c .verdict) ≡ Fractured.verdictOf (Fractured.verdict benchKeys doc noNames)
 with-room doc words after c e l = ap (λ k. k .verdict) e ∙ rw (room-is words l)
 
 module _ (doc : List ℕ) (b : Bool) (f : b ≡ isFractured doc) (v : Verdict) where
-  pub as-fractured : b ≡ true → told v ≡ Fractured.verdictOf (Fractured.verdict benchKeys doc) → Frame.fractured (told v) ≡ frameOf doc
+  pub as-fractured : b ≡ true → told v ≡ Fractured.verdictOf (Fractured.verdict benchKeys doc noNames) → Frame.fractured (told v) ≡ frameOf doc
   unfolding frameOf choose
   as-fractured t e = rw (sym f, t, e)
 

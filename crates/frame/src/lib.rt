@@ -12,6 +12,7 @@ ghost use Rattle.json.specs.Limits.{benchKeys};
 ghost use Rattle.json.specs.Reading.{told};
 ghost use Prim.Native.Nat.{_*_};
 ghost use lib.ListN.{length};
+ghost use Rattle.fractured_json_rules.specs.KeyList.{noNames};
 ghost use Rattle.fractured_json_rules.specs.Verdict.{verdict, verdictOf};
 ghost use Rattle.frame_rules.specs.Frame.{isFractured, frameOf, answerOf};
 ghost use Rattle.frame.specs.Told.{toldAnswer};
@@ -50,10 +51,11 @@ fn key_table() -> [u32; WORDS]
 }
 
 fn check_fractured(doc: &[u8]) -> Verdict
-    ensures { λ r. ⌜ told r ≡ verdictOf (verdict benchKeys (now (doc .entry))) ⌝ }
+    ensures { λ r. ⌜ told r ≡ verdictOf (verdict benchKeys (now (doc .entry)) noNames) ⌝ }
 {
+    let names = [0u8; 3];
     let mut keys = key_table();
-    let c = fractured_json_check::check(doc, &mut keys);
+    let c = fractured_json_check::check(doc, &names, &mut keys);
     c.verdict
 }
 
