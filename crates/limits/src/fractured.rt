@@ -25,7 +25,8 @@ fn say_pair(keys: &[u32], end: usize) {
 // The verdict, the number of pairs and the last pair.
 fn check_with(case: &[u8], doc: &[u8], keys: &mut [u32]) {
     say(case);
-    let c = fractured_json::check(doc, keys);
+    let list = [0u8; 3];
+    let c = fractured_json::check(doc, &list, keys);
     let v = c.verdict;
     let n = c.count;
     verdict(v);
@@ -44,7 +45,8 @@ fn check(case: &[u8], doc: &[u8]) {
 // Place and length of the string that is the root.
 fn string(case: &[u8], doc: &[u8]) {
     say(case);
-    let t = fractured_json::string(doc, 3);
+    let list = [0u8; 3];
+    let t = fractured_json::string(doc, &list, 3);
     match t {
         Text::At { place, len } => two(place, len),
         Text::Refused(_) => say(b" refused"),

@@ -1,4 +1,5 @@
-// The questions of Fractured JSON: each is put to the reader with the lent key table, and its answer brought into the common form.
+// The questions of Fractured JSON: each is put to the reader with a key list without a name and the lent key table, and its answer
+// brought into the common form.
 use crate::answers::ABSENT;
 use crate::answers::ARRAY;
 use crate::answers::Answer;
@@ -86,27 +87,27 @@ fn found(f: Found) -> Answer {
     }
 }
 
-fn at_value(q: usize, doc: &[u8], at: usize) -> Answer {
+fn at_value(q: usize, doc: &[u8], list: &[u8], at: usize) -> Answer {
     match q {
-        questions::KIND => kind(fractured_json::kind(doc, at)),
-        questions::NUMBER => bits(fractured_json::number(doc, at)),
-        questions::STRING => span(fractured_json::string(doc, at)),
+        questions::KIND => kind(fractured_json::kind(doc, list, at)),
+        questions::NUMBER => bits(fractured_json::number(doc, list, at)),
+        questions::STRING => span(fractured_json::string(doc, list, at)),
         _ => word(NOTHING),
     }
 }
 
-fn ask(a: Asked, doc: &[u8], keys: &[u32], count: usize, key: &[u8]) -> Answer {
+fn ask(a: Asked, doc: &[u8], list: &[u8], keys: &[u32], count: usize, key: &[u8]) -> Answer {
     let q = a.question;
     let at = a.cursor;
     match q {
-        questions::END => place(fractured_json::end(doc, keys, count, at)),
-        questions::ELEMENT => place(fractured_json::element(doc, keys, count, at, a.index)),
-        questions::MEMBER => member(fractured_json::member(doc, keys, count, at, a.index)),
+        questions::END => place(fractured_json::end(doc, list, keys, count, at)),
+        questions::ELEMENT => place(fractured_json::element(doc, list, keys, count, at, a.index)),
+        questions::MEMBER => member(fractured_json::member(doc, list, keys, count, at, a.index)),
         questions::FIRST_MEMBER => {
             let key = cut(key, 0, a.key);
-            found(fractured_json::first_member(doc, keys, count, at, key))
+            found(fractured_json::first_member(doc, list, keys, count, at, key))
         }
-        _ => at_value(q, doc, at),
+        _ => at_value(q, doc, list, at),
     }
 }
 
@@ -138,8 +139,8 @@ fn checked(c: Checked) -> Answer {
     }
 }
 
-fn check(out: &mut [u8], n: usize, doc: &[u8], keys: &mut [u32]) -> usize {
-    let c = fractured_json::check(doc, keys);
+fn check(out: &mut [u8], n: usize, doc: &[u8], list: &[u8], keys: &mut [u32]) -> usize {
+    let c = fractured_json::check(doc, list, keys);
     let n = put_answer(out, n, checked(c));
     pairs(out, n, keys, c.count)
 }
@@ -248,13 +249,14 @@ fn lend(row: &[u8], keys: &mut [u32]) -> Lent {
 
 // Puts the question with the part of the table that is lent.
 fn ask_with(out: &mut [u8], n: usize, doc: &[u8], row: &[u8], keys: &mut [u32], l: Lent) -> usize {
+    let list = [0u8; 3];
     let mut key = [0u8; 256];
     let a = read(row, l.next, &mut key);
     let q = a.question;
     match q {
-        questions::CHECK => check(out, n, doc, keys),
-        questions::STRING_TEXT => put_hex(out, n, fractured_json::string_text(doc, a.cursor)),
-        _ => put_answer(out, n, ask(a, doc, keys, l.count, &key)),
+        questions::CHECK => check(out, n, doc, &list, keys),
+        questions::STRING_TEXT => put_hex(out, n, fractured_json::string_text(doc, &list, a.cursor)),
+        _ => put_answer(out, n, ask(a, doc, &list, keys, l.count, &key)),
     }
 }
 
