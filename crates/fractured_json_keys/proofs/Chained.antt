@@ -8,7 +8,7 @@ use native.Mathlib.Numerals.{add-one}
 use native.Mathlib.Omega.{arith}
 use borrow.Author.Tests.{lt-ltb}
 use lib.Dec.{T, ltb, eqb, ltb→lt, nltb→le, eqb→eq, eqb-refl}
-use lib.ListN.{length, getD, set, length-set}
+use lib.ListN.{length, getD, set, replicate, length-set}
 use lib.Seq.{getD-set-same, getD-set-other}
 use Rattle.json.specs.Bytes.{part}
 use Rattle.json.specs.Choose.{choose}
@@ -142,6 +142,11 @@ pub record Chains (doc words links : List ℕ) (m count : ℕ) : Type 0 where
 abbrev pub Linked : List ℕ → List ℕ → List ℕ → ℕ → Type 0
 Linked doc words links count = count ≤ bucketsIn links → Chains doc words links (bucketsIn links) count
 
+pub all-zero : (n i : ℕ) → _≡_ {A = ℕ} (getD (replicate n 0) i 0) 0
+all-zero zero i = refl
+all-zero (suc n) zero = refl
+all-zero (suc n) (suc i) = all-zero n i
+
 -- links that are all 0 say that there is no key
 pub no-links : (doc words links : List ℕ) → ((i : ℕ) → getD links i 0 ≡ 0) → Linked doc words links 0
 unfolding lastOf
@@ -163,6 +168,10 @@ seen-met doc t words links count linked h = go (ltb count (bucketsIn links)) (lt
 -- ---- a key more
 
 module _ (words : List ℕ) (c p n : ℕ) where
+  pub pair-length : length (withPair words c p n) ≡ length words
+  unfolding withPair
+  pair-length = simp length-set
+
   key-kept : (i : ℕ) → i < c → keyOf (withPair words c p n) i ≡ keyOf words i
   unfolding withPair
   key-kept i h =
@@ -179,6 +188,22 @@ module _ (words : List ℕ) (c p n : ℕ) where
       let l : 2 * c < length words = omega arith in
       let k : 2 * c + 1 < length (set words (2 * c) p) = rw length-set h in
       rw (getD-set-other (set words (2 * c) p) (2 * c + 1) (2 * c) n 0 a, getD-set-same words (2 * c) p 0 l, getD-set-same (set words (2 * c) p) (2 * c + 1) n 0 k)
+
+keys-same : (words others : List ℕ) (j n : ℕ) → ((i : ℕ) → i < j + n → keyOf words i ≡ keyOf others i) → keysFrom words j n ≡ keysFrom others j n
+unfolding keysFrom
+keys-same words others j zero h = refl
+keys-same words others j (suc n) h =
+    let k = h j (omega arith) in
+    let t = keys-same words others (j + 1) n (λ i l. h i (omega arith)) in
+    cc
+
+-- a key that has its pair is the last of those passed
+pub keys-more : (words : List ℕ) (c p n : ℕ) → 2 * c + 1 < length words → keysIn (withPair words c p n) (c + 1) ≡ keysIn words c ++ (record { start = p; len = n } ∷ [])
+keys-more words c p n h =
+    let e : min (c + 1) (length (withPair words c p n) / 2) ≡ suc c = rw (pair-length words c p n) (omega arith) in
+    let m : min c (length words / 2) ≡ c = omega arith in
+    let z : 0 + c ≡ c = omega arith in
+    rw (e, m) (keys-last (withPair words c p n) 0 c ∙ rw (z, key-new words c p n h, keys-same (withPair words c p n) words 0 c (λ i l. key-kept words c p n i (omega arith))))
 
 module _ (doc words links : List ℕ) (m count p n : ℕ) (chains : Chains doc words links m count) (l : count < m) (w : 2 * m ≤ length links) (h : 2 * count + 1 < length words) where
   abbrev bucket : ℕ

@@ -1,0 +1,4 @@
+pub mod NameLaws
+pub mod PassLaws
+pub mod Alike
+pub mod CheckLaws

@@ -1,0 +1,41 @@
+// The key list of Fractured JSON: its own check, proved equal to its rules in `fractured_json_rules`, how many names it has, and
+// where each of them stands.
+pub mod names;
+mod start;
+mod walk;
+
+use json::Refusal;
+use json::Verdict;
+use names::count_of;
+use walk::end_at;
+ghost use mathlib.Core.Path.{_≡_};
+ghost use Rattle.json.specs.Reading.{ask, told};
+ghost use Rattle.fractured_json_rules.specs.KeyList.{keyList};
+
+// A rule that fails, by its number, and where.
+pub(crate) fn refusal(number: u32, place: usize) -> Refusal
+    ensures { λ r. ⌜ (r .number ≡ number) × (r .place ≡ place) ⌝ }
+{
+    Refusal { number, place }
+}
+
+// The check of a key list: the config byte, the count, the names, and that nothing stands after them.
+pub fn check_list(list: &[u8]) -> Verdict
+    ensures { λ r. ⌜ told r ≡ ask (keyList (now (list .entry))) ⌝ }
+{
+    let len = list.len();
+    if len == 0 {
+        return Verdict::Refused(refusal(52, 0));
+    }
+    if list[0] != 0 {
+        return Verdict::Refused(refusal(51, 0));
+    }
+    if len < 3 {
+        return Verdict::Refused(refusal(52, 1));
+    }
+    let n = count_of(list);
+    if n == 0 {
+        return end_at(list, 3);
+    }
+    start::pass_all(list, n)
+}
