@@ -1,4 +1,4 @@
--- One law for each way through `check` and the walk from the root.
+-- One law for each way through `check`, `check_document` and the walk from the root.
 use mathlib.Core.Path.{_≡_, refl, sym, ap, _∙_}
 use mathlib.Core.Bool.{Bool, true, false}
 use mathlib.Core.List.{List, []}
@@ -13,10 +13,11 @@ use Rattle.json.specs.declared.Refusal.{Refusal}
 use Rattle.json.specs.declared.Verdict.{Verdict}
 use Rattle.json.proofs.Reading.{then, stops, need-yes, need-no}
 use Rattle.fractured_json_rules.specs.Meaning.{Keys}
+use Rattle.fractured_json_rules.specs.KeyList.{namesFrom, countIn, keyList}
 use Rattle.fractured_json_rules.specs.Verdict.{header, inTurn, value, checkKey, document, check}
 use Rattle.fractured_json_rules.specs.KeyTable.{roomOf, stored, Checked, checkedBy, checked}
 use Rattle.fractured_json_values.specs.Opened.{entry}
-use Rattle.fractured_json_values.proofs.Carried.{carry, carry-header}
+use Rattle.fractured_json_values.proofs.Carried.{carry, carry-then, carry-need, carry-header}
 use Rattle.fractured_json_values.proofs.Headers.{unlike, header-opens}
 use Rattle.fractured_json_check.specs.Told.{toldChecked}
 use Rattle.fractured_json_check.specs.Table.{Table, table, keyIn, out, Walked, walkedBy, walked, toldWalk}
@@ -97,4 +98,29 @@ module _ (doc : List ℕ) (names : ℕ) (words : List ℕ) (v : Verdict) (h : to
       pub accepts : a ≡ length doc → record { verdict = answers tt; count = c; words = after } ≡ checkedBy words (document (roomOf words) doc names [])
       accepts n = sym (ends ∙ ap (λ x. record { verdict = x; count = c; words = after }) (need-yes _ _ _ _ (rw n (eqb-refl (length doc)))))
 
-pub ruleset check-laws = (document-short, header-refused, walk-refused, bytes-after, accepts, needs)
+pub ruleset document-laws = (document-short, header-refused, walk-refused, bytes-after, accepts, needs)
+
+-- ---- the key list before it
+
+carry-names : {S : Type 0} (list : List ℕ) (n o : ℕ) (ks : Keys) (s : S) → namesFrom list n o ks s ≡ carry s (ask (namesFrom list n o ks))
+unfolding namesFrom
+carry-names list zero o ks s = carry-need _ _ _ s
+carry-names list (suc n) o ks s =
+    carry-then _ _ _ _ s (carry-need _ _ _ s) λ _. carry-then _ _ _ _ s (carry-need _ _ _ s) λ _. carry-then _ _ _ _ s (carry-need _ _ _ s) λ _. carry-names list n _ _ s
+
+carry-list : {S : Type 0} (list : List ℕ) (s : S) → keyList list s ≡ carry s (ask (keyList list))
+unfolding keyList
+carry-list list s =
+    carry-then _ _ _ _ s (carry-need _ _ _ s) λ _. carry-then _ _ _ _ s (carry-need _ _ _ s) λ _. carry-then _ _ _ _ s (carry-need _ _ _ s) λ _. carry-names list _ _ _ s
+
+module _ (doc list words : List ℕ) (v : Verdict) (h : told v ≡ ask (keyList list)) where
+  pub list-refused : (r : Refusal) (c : Answer) → v ≡ Verdict.Refused r → told (c .verdict) ≡ refuses (r .number) (r .place) → c .count ≡ 0 → toldChecked c words ≡ checked doc list words
+  unfolding check stored
+  list-refused r c e a b = rw (a, b) (ap (checkedBy words) (sym (stops _ _ _ (carry-list list [] ∙ ap (carry []) (sym h ∙ ap told e)))))
+
+  pub list-passed : v ≡ Verdict.Accepted → (n : ℕ) (c : Answer) (after : List ℕ) → n ≡ countIn list → toldChecked c after ≡ checkedBy words (document (roomOf words) doc n [])
+      → toldChecked c after ≡ checked doc list words
+  unfolding check
+  list-passed e n c after q a = a ∙ rw q (ap (checkedBy words) (sym (then _ _ _ (carry-list list [] ∙ ap (carry []) (sym h ∙ ap told e)))))
+
+pub ruleset check-laws = (list-refused, list-passed, needs)

@@ -1,10 +1,12 @@
-// The check of a Fractured JSON document with a lent key table, proved equal to its rule in `fractured_json_rules`.
+// The check of a Fractured JSON document with a key list and a lent key table, proved equal to its rule in `fractured_json_rules`.
 pub mod answers;
 mod keys;
 mod start;
 mod walk;
 
 use answers::Checked;
+use fractured_json_list::check_list;
+use fractured_json_list::names::count_of;
 use fractured_json_values::header::read_header;
 use json::Refusal;
 use json::Verdict;
@@ -54,5 +56,18 @@ fn check_document(doc: &[u8], names: usize, keys: &mut [u32]) -> Checked
                 }
             }
         }
+    }
+}
+
+// The check of a key list, and then of a document with a lent key table: the verdict, and the number of pairs. Each immediate key
+// passed before the end or the refusal has its pair in the table, the start and the length of its text; all other words keep what they
+// held.
+pub fn check(doc: &[u8], list: &[u8], keys: &mut [u32]) -> Checked
+    ensures { λ r. ⌜ toldChecked r (now (keys .exit)) ≡ checked (now (doc .entry)) (now (list .entry)) (now (keys .entry)) ⌝ }
+{
+    let l = check_list(list);
+    match l {
+        Verdict::Refused(r) => refuse(r, 0),
+        Verdict::Accepted => check_document(doc, count_of(list), keys),
     }
 }

@@ -1,4 +1,4 @@
-use Rattle.fractured_json_check.proofs.Checks.{check-laws}
+use Rattle.fractured_json_check.proofs.Checks.{document-laws}
 use borrow.Author.Needs.{needs}
 use Rattle.fractured_json_check.proofs.check_document.Statement.{statement}
 use Rattle.fractured_json_check.proofs.check_document.Tie as tie
@@ -21,7 +21,7 @@ enum-told : tie.Need-enum-told
 enum-told c = search needs
 
 walk-root-requires : tie.Need-walk-root-requires
-walk-root-requires c κs = search check-laws
+walk-root-requires c κs = search document-laws
 
 enum-known-w : tie.Need-enum-known-w
 enum-known-w c = search needs
@@ -36,25 +36,25 @@ same-length : tie.Need-same-length
 same-length c = search needs
 
 returns : tie.Need-returns
-returns c = search check-laws
+returns c = search document-laws
 
 refuse-requires-3 : tie.Need-refuse-requires-3
 refuse-requires-3 c κs = search needs
 
 returns-2 : tie.Need-returns-2
-returns-2 c = search check-laws
+returns-2 c = search document-laws
 
 same-length-2 : tie.Need-same-length-2
 same-length-2 c = search needs
 
 returns-3 : tie.Need-returns-3
-returns-3 c = search check-laws
+returns-3 c = search document-laws
 
 same-length-3 : tie.Need-same-length-3
 same-length-3 c = search needs
 
 returns-4 : tie.Need-returns-4
-returns-4 c = search check-laws
+returns-4 c = search document-laws
 
 pub check-document-spec : {M : Type 1} → statement M
 check-document-spec =
