@@ -18,8 +18,8 @@ enum-told c = search needs
 returns : tie.Need-returns
 returns c = search enter-laws
 
-shared-slice-read-t10 : tie.Need-shared-slice-read-t10
-shared-slice-read-t10 c = search needs
+shared-slice-read-t11 : tie.Need-shared-slice-read-t11
+shared-slice-read-t11 c = search needs
 
 returns-2 : tie.Need-returns-2
 returns-2 c = search enter-laws
@@ -35,6 +35,6 @@ enter-spec =
     enum-known-o
     enum-told
     returns
-    shared-slice-read-t10
+    shared-slice-read-t11
     returns-2
     returns-3)
