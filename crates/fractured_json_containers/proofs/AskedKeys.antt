@@ -86,18 +86,18 @@ module _ (doc list words : List ℕ) (count at kind number past : ℕ) where
   as-back k e h = rw e h
 
   module _ (f : kind ≡ 0 → ⊥) (g : kind ≡ 1 → ⊥) (n : ℕ) (ns : n ≡ countIn list) where
-    pub as-name : number < n → ask (numberedBy (textKey doc at) (backKey doc words count at) (nameKey list at) kind (numeral number past)) ≡ answers (inList list number past)
+    found : number < n → ask (numberedBy (textKey doc at) (backKey doc words count at) (nameKey list at) kind (numeral number past)) ≡ answers (inList list number past)
     unfolding numberedBy nameKey choose
-    as-name h = let l : number < countIn list = omega arith in rw (ne-eqb kind 0 f, ne-eqb kind 1 g) (pass _ _ _ _ tt (lt→ltb _ _ l))
+    found h = let l : number < countIn list = omega arith in rw (ne-eqb kind 0 f, ne-eqb kind 1 g) (pass _ _ _ _ tt (lt→ltb _ _ l))
+
+    pub as-name : n < 65_536 → number < n → ReadsKey list (ask (numberedBy (textKey doc at) (backKey doc words count at) (nameKey list at) kind (numeral number past))) (KeyText.Name number past)
+    as-name l h = (found h, omega arith)
 
     pub as-unlisted : n ≤ number → ask (numberedBy (textKey doc at) (backKey doc words count at) (nameKey list at) kind (numeral number past)) ≡ refuses 38 at
     unfolding numberedBy nameKey choose
     as-unlisted h = rw (ne-eqb kind 0 f, ne-eqb kind 1 g) (fail _ _ _ _ tt (λ t. let l = ltb→lt number (countIn list) t in omega arith))
 
-pub name-small : (number n : ℕ) → number < n → n < 65_536 → number < 65_536
-name-small number n h l = omega arith
-
-pub ruleset numbered-laws = (text-outside, text-read, as-back, as-name, as-unlisted, name-small, needs)
+pub ruleset numbered-laws = (text-outside, text-read, as-back, as-name, as-unlisted, needs)
 
 -- ---- a key at a place
 
@@ -119,6 +119,6 @@ module _ (doc list words : List ℕ) (count at : ℕ) where
       pub key-by-number : (n p : ℕ) (k : KeyText) → c ≡ Numeral.Is n p → ReadsKey list (ask (numberedBy (textKey doc at) (backKey doc words count at) (nameKey list at) (h .kind) (numeral n p))) k
           → ReadsKey list (ask (readKey doc list words count at)) k
       unfolding readKey
-      key-by-number n p k e q = rw (number-read doc at (textKey doc at) (backKey doc words count at) (nameKey list at) tt i h hs f c cs n p e) q
+      key-by-number n p k e q = rw (number-read doc at (textKey doc at) (backKey doc words count at) (nameKey list at) (tt {0}) i h hs f c cs n p e) q
 
 pub ruleset read-key-laws = (key-past, key-reserved, key-refused, key-by-number, numeral-inside, needs)

@@ -1,4 +1,4 @@
--- The questions' walk, one law for each way through `skip`, `skip_entries` and `skip_entry`.
+-- The questions' walk, one law for each way through `pass_key`, `skip`, `skip_entries` and `skip_entry`.
 use mathlib.Core.Path.{_≡_, sym, ap, _∙_}
 use mathlib.Core.Bool.{Bool, true, false}
 use mathlib.Core.List.{List}
@@ -51,17 +51,19 @@ pub ruleset entries-laws = (none-left, entry-passes, entry-refused, needs)
 
 -- the key's end alone
 module _ (doc list words : List ℕ) (count at : ℕ) (k : KeyText) (ks : ReadsKey list (ask (readKey doc list words count at)) k) where
-  pub passes-key : (s l p : ℕ) → k ≡ KeyText.At s l p → ask (passKey doc list words count at) ≡ answers p
+  pub passes-text : (s l p : ℕ) → k ≡ KeyText.At s l p → answers p ≡ ask (passKey doc list words count at)
   unfolding passKey
-  passes-key s l p q = let w : ReadsKey list (ask (readKey doc list words count at)) (KeyText.At s l p) = rw q at ks in then _ _ tt w
+  passes-text s l p q = let w : ReadsKey list (ask (readKey doc list words count at)) (KeyText.At s l p) = rw q at ks in sym (then _ _ tt w)
 
-  pub passes-name : (j p : ℕ) → k ≡ KeyText.Name j p → ask (passKey doc list words count at) ≡ answers p
+  pub passes-name : (j p : ℕ) → k ≡ KeyText.Name j p → answers p ≡ ask (passKey doc list words count at)
   unfolding passKey
-  passes-name j p q = let w : ReadsKey list (ask (readKey doc list words count at)) (KeyText.Name j p) = rw q at ks in then _ _ tt (w .0)
+  passes-name j p q = let w : ReadsKey list (ask (readKey doc list words count at)) (KeyText.Name j p) = rw q at ks in sym (then _ _ tt (w .0))
 
-  pub stops-at-key : (r : Refusal) → k ≡ KeyText.Refused r → ask (passKey doc list words count at) ≡ refuses (r .number) (r .place)
+  pub stops-at-key : (r : Refusal) → k ≡ KeyText.Refused r → refuses (r .number) (r .place) ≡ ask (passKey doc list words count at)
   unfolding passKey
-  stops-at-key r q = let w : ReadsKey list (ask (readKey doc list words count at)) (KeyText.Refused r) = rw q at ks in stops _ _ tt w
+  stops-at-key r q = let w : ReadsKey list (ask (readKey doc list words count at)) (KeyText.Refused r) = rw q at ks in sym (stops _ _ tt w)
+
+pub ruleset pass-laws = (passes-text, passes-name, stops-at-key, needs)
 
 module _ (doc list words : List ℕ) (count : ℕ) (object : Bool) (below at : ℕ) where
   pub as-value : (r : Asked ℕ) → object ≡ false → r ≡ ask (value (passKey doc list words count) below doc at)
@@ -69,22 +71,14 @@ module _ (doc list words : List ℕ) (count : ℕ) (object : Bool) (below at : �
   unfolding entry
   as-value r e h = rw e h
 
-  module _ (o : object ≡ true) (k : KeyText) (ks : ReadsKey list (ask (readKey doc list words count at)) k) where
-    after : (p : ℕ) (r : Asked ℕ) → ask (passKey doc list words count at) ≡ answers p → r ≡ ask (value (passKey doc list words count) below doc p)
+  module _ (o : object ≡ true) (k : Place) (ks : toldPlace k ≡ ask (passKey doc list words count at)) where
+    pub after-key : (p : ℕ) (r : Asked ℕ) → k ≡ Place.At p → r ≡ ask (value (passKey doc list words count) below doc p)
         → r ≡ ask (entry object (passKey doc list words count) (value (passKey doc list words count) below doc) at)
     unfolding entry member
-    after p r e h = rw o (h ∙ sym (then _ _ tt e))
+    after-key p r q h = rw o (h ∙ sym (then _ _ tt (sym ks ∙ ap toldPlace q)))
 
-    pub after-key : (s l p : ℕ) (r : Asked ℕ) → k ≡ KeyText.At s l p → r ≡ ask (value (passKey doc list words count) below doc p)
-        → r ≡ ask (entry object (passKey doc list words count) (value (passKey doc list words count) below doc) at)
-    after-key s l p r q h = after p r (passes-key doc list words count at k ks s l p q) h
-
-    pub after-name : (j p : ℕ) (r : Asked ℕ) → k ≡ KeyText.Name j p → r ≡ ask (value (passKey doc list words count) below doc p)
-        → r ≡ ask (entry object (passKey doc list words count) (value (passKey doc list words count) below doc) at)
-    after-name j p r q h = after p r (passes-name doc list words count at k ks j p q) h
-
-    pub key-halts : (r : Refusal) → k ≡ KeyText.Refused r → refuses (r .number) (r .place) ≡ ask (entry object (passKey doc list words count) (value (passKey doc list words count) below doc) at)
+    pub key-halts : (r : Refusal) → k ≡ Place.Refused r → refuses (r .number) (r .place) ≡ ask (entry object (passKey doc list words count) (value (passKey doc list words count) below doc) at)
     unfolding entry member
-    key-halts r q = rw o (sym (stops _ _ tt (stops-at-key doc list words count at k ks r q)))
+    key-halts r q = rw o (sym (stops _ _ tt (sym ks ∙ ap toldPlace q)))
 
-pub ruleset entry-laws = (as-value, after-key, after-name, key-halts, needs)
+pub ruleset entry-laws = (as-value, after-key, key-halts, needs)

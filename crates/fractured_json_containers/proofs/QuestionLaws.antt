@@ -25,7 +25,6 @@ use Rattle.fractured_json_values.specs.declared.values.Numeral.{Numeral}
 use Rattle.fractured_json_containers.specs.declared.skip.KeyText.{KeyText}
 use Rattle.fractured_json_scalars.proofs.Entering.{length-refused, length-read}
 use Rattle.fractured_json_containers.proofs.LookupLaws.{name-number}
-use Rattle.fractured_json_containers.proofs.AskedWalk.{passes-key, passes-name, stops-at-key}
 
 -- ---- its end
 
@@ -77,18 +76,14 @@ module _ (doc list words : List ℕ) (count at j : ℕ) where
     unfolding memberFrom entry
     members-refused r q = sym (pass _ _ _ _ tt (lt→ltb _ _ h) ∙ stops _ _ tt (sym ws ∙ ap toldPlace q))
 
-    module _ (o : ℕ) (q : w ≡ Place.At o) (k : KeyText) (ks : ReadsKey list (ask (readKey doc list words count o)) k) where
-      pub key-refused : (r : Refusal) → k ≡ KeyText.Refused r → refuses (r .number) (r .place) ≡ ask (memberFrom doc list words count at j n first)
+    module _ (o : ℕ) (q : w ≡ Place.At o) (k : Place) (ks : toldPlace k ≡ ask (passKey doc list words count o)) where
+      pub key-refused : (r : Refusal) → k ≡ Place.Refused r → refuses (r .number) (r .place) ≡ ask (memberFrom doc list words count at j n first)
       unfolding memberFrom entry
-      key-refused r e = sym (pass _ _ _ _ tt (lt→ltb _ _ h) ∙ (then _ _ tt (sym ws ∙ ap toldPlace q) ∙ stops _ _ tt (stops-at-key doc list words count o k ks r e)))
+      key-refused r e = sym (pass _ _ _ _ tt (lt→ltb _ _ h) ∙ (then _ _ tt (sym ws ∙ ap toldPlace q) ∙ stops _ _ tt (sym ks ∙ ap toldPlace e)))
 
-      pub member-found : (s l p : ℕ) → k ≡ KeyText.At s l p → answers (record { key = o; value = p }) ≡ ask (memberFrom doc list words count at j n first)
+      pub member-found : (p : ℕ) → k ≡ Place.At p → answers (record { key = o; value = p }) ≡ ask (memberFrom doc list words count at j n first)
       unfolding memberFrom entry
-      member-found s l p e = sym (pass _ _ _ _ tt (lt→ltb _ _ h) ∙ (then _ _ tt (sym ws ∙ ap toldPlace q) ∙ then _ _ tt (passes-key doc list words count o k ks s l p e)))
-
-      pub member-by-name : (i p : ℕ) → k ≡ KeyText.Name i p → answers (record { key = o; value = p }) ≡ ask (memberFrom doc list words count at j n first)
-      unfolding memberFrom entry
-      member-by-name i p e = sym (pass _ _ _ _ tt (lt→ltb _ _ h) ∙ (then _ _ tt (sym ws ∙ ap toldPlace q) ∙ then _ _ tt (passes-name doc list words count o k ks i p e)))
+      member-found p e = sym (pass _ _ _ _ tt (lt→ltb _ _ h) ∙ (then _ _ tt (sym ws ∙ ap toldPlace q) ∙ then _ _ tt (sym ks ∙ ap toldPlace e)))
 
   module _ (c : Numeral) (cs : ReadsNumeral (length doc) (ask (wantedIn doc list at 9)) c) where
     pub member-refused : (r : Refusal) → c ≡ Numeral.Refused r → refuses (r .number) (r .place) ≡ ask (memberAt doc list words count at j)
@@ -99,7 +94,7 @@ module _ (doc list words : List ℕ) (count at j : ℕ) where
     unfolding memberAt
     member-read n p r q e = e ∙ sym (length-read doc list at anObject _ c cs n p q)
 
-pub ruleset member-from-laws = (member-past, members-refused, key-refused, member-found, member-by-name, needs)
+pub ruleset member-from-laws = (member-past, members-refused, key-refused, member-found, needs)
 
 pub ruleset member-laws = (member-refused, member-read, needs)
 

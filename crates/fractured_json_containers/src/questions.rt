@@ -3,6 +3,7 @@
 use crate::lookup::find;
 use crate::skip::INNER;
 use crate::skip::KeyText;
+use crate::skip::pass_key;
 use crate::skip::read_key;
 use crate::skip::skip;
 use crate::skip::skip_entries;
@@ -95,18 +96,10 @@ fn member_from(
     match w {
         Place::Refused(r) => Member::Refused(r),
         Place::At(o) => {
-            let k = read_key(doc, list, keys, count, o);
+            let k = pass_key(doc, list, keys, count, o);
             match k {
-                KeyText::Refused(r) => Member::Refused(r),
-                KeyText::At {
-                    start: _,
-                    len: _,
-                    past,
-                } => Member::At {
-                    key: o,
-                    value: past,
-                },
-                KeyText::Name { number: _, past } => Member::At {
+                Place::Refused(r) => Member::Refused(r),
+                Place::At(past) => Member::At {
                     key: o,
                     value: past,
                 },

@@ -138,6 +138,22 @@ pub(crate) fn read_key(doc: &[u8], list: &[u8], keys: &[u32], count: usize, at: 
     }
 }
 
+// Where the key at a place ends.
+pub(crate) fn pass_key(doc: &[u8], list: &[u8], keys: &[u32], count: usize, at: usize) -> Place
+    ensures { λ r. ⌜ toldPlace r ≡ ask (passKey (now (doc .entry)) (now (list .entry)) (now (keys .entry)) count at) ⌝ }
+{
+    let k = read_key(doc, list, keys, count, at);
+    match k {
+        KeyText::Refused(r) => Place::Refused(r),
+        KeyText::At {
+            start: _,
+            len: _,
+            past,
+        } => Place::At(past),
+        KeyText::Name { number: _, past } => Place::At(past),
+    }
+}
+
 // The end of the value at a place, with so many levels left for containers.
 pub(crate) fn skip(doc: &[u8], list: &[u8], keys: &[u32], count: usize, at: usize, levels: usize) -> Place
     ensures { λ r. ⌜ toldPlace r ≡ ask (value (passKey (now (doc .entry)) (now (list .entry)) (now (keys .entry)) count) levels (now (doc .entry)) at) ⌝ }
@@ -205,19 +221,12 @@ fn skip_entry(
     ensures { λ r. ⌜ toldPlace r ≡ ask (entry object (passKey (now (doc .entry)) (now (list .entry)) (now (keys .entry)) count) (value (passKey (now (doc .entry)) (now (list .entry)) (now (keys .entry)) count) below (now (doc .entry))) at) ⌝ }
 {
     if object {
-        let k = read_key(doc, list, keys, count, at);
+        let k = pass_key(doc, list, keys, count, at);
         match k {
-            KeyText::Refused(r) => {
+            Place::Refused(r) => {
                 return Place::Refused(r);
             }
-            KeyText::At {
-                start: _,
-                len: _,
-                past,
-            } => {
-                return skip(doc, list, keys, count, past, below);
-            }
-            KeyText::Name { number: _, past } => {
+            Place::At(past) => {
                 return skip(doc, list, keys, count, past, below);
             }
         }

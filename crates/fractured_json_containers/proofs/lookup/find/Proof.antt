@@ -10,10 +10,10 @@ use Rattle.fractured_json_containers.proofs.lookup.find.Lts as lts
 use Rattle.fractured_json_containers.proofs.lookup.look_at.Reads as look-at-reads
 
 abbrev Inv-loop : tie.InvT-loop
-Inv-loop doc keys count x n first at₀ left₀ at left = ask (findIn doc keys count x left at) ≡ ask (findIn doc keys count x n first)
+Inv-loop doc list keys count x n first at₀ left₀ at left = ask (findIn doc list keys count x left at) ≡ ask (findIn doc list keys count x n first)
 
 abbrev μ-loop : tie.MeasureT-loop
-μ-loop doc keys count x n first at₀ left₀ at left = left
+μ-loop doc list keys count x n first at₀ left₀ at left = left
 
 loop-holds : tie.Need-loop-holds Inv-loop μ-loop
 loop-holds c = search find-laws

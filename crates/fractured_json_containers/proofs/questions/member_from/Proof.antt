@@ -1,32 +1,27 @@
 use Rattle.fractured_json_containers.proofs.QuestionLaws.{member-from-laws}
-use borrow.Author.Needs.{needs}
 use Rattle.fractured_json_containers.proofs.questions.member_from.Statement.{statement}
 use Rattle.fractured_json_containers.proofs.questions.member_from.Tie as tie
-use Rattle.fractured_json_containers.proofs.questions.member_from.Reads as reads
-use Rattle.fractured_json_containers.proofs.questions.member_from.Lts as lts
-use Rattle.fractured_json_containers.proofs.skip.read_key.Reads as read-key-reads
-use Rattle.fractured_json_containers.proofs.skip.skip_entries.Reads as skip-entries-reads
 
 returns : tie.Need-returns
 returns c = search member-from-laws
 
 skip-entries-requires : tie.Need-skip-entries-requires
-skip-entries-requires c κs = search needs
+skip-entries-requires c κs = search member-from-laws
 
 enum-known-w : tie.Need-enum-known-w
-enum-known-w c = search needs
+enum-known-w c = search member-from-laws
 
 enum-known-w-2 : tie.Need-enum-known-w-2
-enum-known-w-2 c = search needs
+enum-known-w-2 c = search member-from-laws
 
-read-key-requires : tie.Need-read-key-requires
-read-key-requires c κs = search needs
+pass-key-requires : tie.Need-pass-key-requires
+pass-key-requires c κs = search member-from-laws
 
 enum-known-k : tie.Need-enum-known-k
-enum-known-k c = search needs
+enum-known-k c = search member-from-laws
 
 enum-known-k-2 : tie.Need-enum-known-k-2
-enum-known-k-2 c = search needs
+enum-known-k-2 c = search member-from-laws
 
 returns-2 : tie.Need-returns-2
 returns-2 c = search member-from-laws
@@ -45,7 +40,7 @@ member-from-spec =
     skip-entries-requires
     enum-known-w
     enum-known-w-2
-    read-key-requires
+    pass-key-requires
     enum-known-k
     enum-known-k-2
     returns-2

@@ -17,45 +17,45 @@ use Rattle.fractured_json_containers.proofs.skip.+skip+skip_entries+ski
 use Rattle.fractured_json_containers.proofs.skip.skip_entry.Reads as skip-entry
 use Rattle.fractured_json_containers.proofs.skip.skip_entry.Kinds as skip-entry-kinds
 use Rattle.fractured_json_containers.proofs.skip.+skip+skip_entries+skip_entry.Lts-skip_entry as skip-entry-lts
-use Rattle.fractured_json_containers.proofs.skip.read_key.Reads as read-key-reads
+use Rattle.fractured_json_containers.proofs.skip.pass_key.Reads as pass-key-reads
 use Rattle.fractured_json_values.proofs.values.open_at.Reads as open-at-reads
 use Rattle.fractured_json_containers.proofs.skip.+skip+skip_entries+skip_entry.{statement}
 use Rattle.fractured_json_containers.proofs.skip.+skip+skip_entries+skip_entry.Tie.{close}
 
-abbrev μ-skip : Measures 2 skip-kinds.ps ℕ
-μ-skip κs a = 3 * a .1 .1 .1 .1 .0
+abbrev μ-skip : Measures 3 skip-kinds.ps ℕ
+μ-skip κs a = 3 * a .1 .1 .1 .1 .1 .0
 
-abbrev μ-skip-entries : Measures 2 skip-entries-kinds.ps ℕ
-μ-skip-entries κs a = 3 * a .1 .1 .1 .1 .1 .1 .0 + 2
+abbrev μ-skip-entries : Measures 3 skip-entries-kinds.ps ℕ
+μ-skip-entries κs a = 3 * a .1 .1 .1 .1 .1 .1 .1 .0 + 2
 
-abbrev μ-skip-entry : Measures 2 skip-entry-kinds.ps ℕ
-μ-skip-entry κs a = 3 * a .1 .1 .1 .1 .1 .0 + 1
+abbrev μ-skip-entry : Measures 3 skip-entry-kinds.ps ℕ
+μ-skip-entry κs a = 3 * a .1 .1 .1 .1 .1 .1 .0 + 1
 
-abbrev skip-at : ℕ → In 2 skip-kinds.ps
-skip-at t = and 2 skip-kinds.ps (is 2 skip-kinds.ps μ-skip t) skip.Pre
+abbrev skip-at : ℕ → In 3 skip-kinds.ps
+skip-at t = and 3 skip-kinds.ps (is 3 skip-kinds.ps μ-skip t) skip.Pre
 
-abbrev skip-below : ℕ → In 2 skip-kinds.ps
-skip-below t = and 2 skip-kinds.ps (falls 2 skip-kinds.ps _<_ μ-skip t) skip.Pre
+abbrev skip-below : ℕ → In 3 skip-kinds.ps
+skip-below t = and 3 skip-kinds.ps (falls 3 skip-kinds.ps _<_ μ-skip t) skip.Pre
 
-abbrev skip-entries-at : ℕ → In 2 skip-entries-kinds.ps
+abbrev skip-entries-at : ℕ → In 3 skip-entries-kinds.ps
 skip-entries-at t =
-    and 2 skip-entries-kinds.ps (is 2 skip-entries-kinds.ps μ-skip-entries t) skip-entries.Pre
+    and 3 skip-entries-kinds.ps (is 3 skip-entries-kinds.ps μ-skip-entries t) skip-entries.Pre
 
-abbrev skip-entries-below : ℕ → In 2 skip-entries-kinds.ps
+abbrev skip-entries-below : ℕ → In 3 skip-entries-kinds.ps
 skip-entries-below t =
     and
-    2
+    3
     skip-entries-kinds.ps
-    (falls 2 skip-entries-kinds.ps _<_ μ-skip-entries t)
+    (falls 3 skip-entries-kinds.ps _<_ μ-skip-entries t)
     skip-entries.Pre
 
-abbrev skip-entry-at : ℕ → In 2 skip-entry-kinds.ps
+abbrev skip-entry-at : ℕ → In 3 skip-entry-kinds.ps
 skip-entry-at t =
-    and 2 skip-entry-kinds.ps (is 2 skip-entry-kinds.ps μ-skip-entry t) skip-entry.Pre
+    and 3 skip-entry-kinds.ps (is 3 skip-entry-kinds.ps μ-skip-entry t) skip-entry.Pre
 
-abbrev skip-entry-below : ℕ → In 2 skip-entry-kinds.ps
+abbrev skip-entry-below : ℕ → In 3 skip-entry-kinds.ps
 skip-entry-below t =
-    and 2 skip-entry-kinds.ps (falls 2 skip-entry-kinds.ps _<_ μ-skip-entry t) skip-entry.Pre
+    and 3 skip-entry-kinds.ps (falls 3 skip-entry-kinds.ps _<_ μ-skip-entry t) skip-entry.Pre
 
 skip-open-at-requires : (t : ℕ) → skip-lts.Need-open-at-requires (
   open-at-reads.Asked,
@@ -138,11 +138,12 @@ skip-returns-4 : (t : ℕ) → skip-lts.Need-returns-4 (
 skip-returns-4 t c = search skip-laws
 
 abbrev skip-entries-Inv-loop : skip-entries-lts.InvT-loop
-skip-entries-Inv-loop doc keys count first n object below at₀ left₀ at left =
-    ask (inTurn (entry object (passKey doc keys count) (value (passKey doc keys count) below doc)) left at) ≡ ask (inTurn (entry object (passKey doc keys count) (value (passKey doc keys count) below doc)) n first)
+skip-entries-Inv-loop doc list keys count first n object below at₀ left₀ at left =
+    ask (inTurn (entry object (passKey doc list keys count) (value (passKey doc list keys count) below doc)) left at)
+    ≡ ask (inTurn (entry object (passKey doc list keys count) (value (passKey doc list keys count) below doc)) n first)
 
 abbrev skip-entries-μ-loop : skip-entries-lts.MeasureT-loop
-skip-entries-μ-loop doc keys count first n object below at₀ left₀ at left = left
+skip-entries-μ-loop doc list keys count first n object below at₀ left₀ at left = left
 
 skip-entries-loop-holds : (t : ℕ) → skip-entries-lts.Need-loop-holds (
   skip-entry-below t,
@@ -198,65 +199,65 @@ skip-entries-returns-2 : (t : ℕ) → skip-entries-lts.Need-returns-2 (
 ) (skip-entries-at t) skip-entries.Post skip-entries-Inv-loop skip-entries-μ-loop
 skip-entries-returns-2 t c = search entries-laws
 
-skip-entry-read-key-requires : (t : ℕ) → skip-entry-lts.Need-read-key-requires (
-  read-key-reads.Asked,
-  read-key-reads.Learnt,
+skip-entry-pass-key-requires : (t : ℕ) → skip-entry-lts.Need-pass-key-requires (
+  pass-key-reads.Asked,
+  pass-key-reads.Learnt,
   skip-below t,
   skip.Post,
 ) (skip-entry-at t) skip-entry.Post
-skip-entry-read-key-requires t c κs = search entry-laws
+skip-entry-pass-key-requires t c κs = search entry-laws
 
 skip-entry-enum-known-k : (t : ℕ) → skip-entry-lts.Need-enum-known-k (
-  read-key-reads.Asked,
-  read-key-reads.Learnt,
+  pass-key-reads.Asked,
+  pass-key-reads.Learnt,
   skip-below t,
   skip.Post,
 ) (skip-entry-at t) skip-entry.Post
 skip-entry-enum-known-k t c = search entry-laws
 
 skip-entry-returns : (t : ℕ) → skip-entry-lts.Need-returns (
-  read-key-reads.Asked,
-  read-key-reads.Learnt,
+  pass-key-reads.Asked,
+  pass-key-reads.Learnt,
   skip-below t,
   skip.Post,
 ) (skip-entry-at t) skip-entry.Post
 skip-entry-returns t c = search entry-laws
 
 skip-entry-enum-known-k-2 : (t : ℕ) → skip-entry-lts.Need-enum-known-k-2 (
-  read-key-reads.Asked,
-  read-key-reads.Learnt,
+  pass-key-reads.Asked,
+  pass-key-reads.Learnt,
   skip-below t,
   skip.Post,
 ) (skip-entry-at t) skip-entry.Post
 skip-entry-enum-known-k-2 t c = search entry-laws
 
 skip-entry-skip-requires : (t : ℕ) → skip-entry-lts.Need-skip-requires (
-  read-key-reads.Asked,
-  read-key-reads.Learnt,
+  pass-key-reads.Asked,
+  pass-key-reads.Learnt,
   skip-below t,
   skip.Post,
 ) (skip-entry-at t) skip-entry.Post
 skip-entry-skip-requires t c κs = search entry-laws
 
 skip-entry-returns-2 : (t : ℕ) → skip-entry-lts.Need-returns-2 (
-  read-key-reads.Asked,
-  read-key-reads.Learnt,
+  pass-key-reads.Asked,
+  pass-key-reads.Learnt,
   skip-below t,
   skip.Post,
 ) (skip-entry-at t) skip-entry.Post
 skip-entry-returns-2 t c = search entry-laws
 
 skip-entry-skip-requires-2 : (t : ℕ) → skip-entry-lts.Need-skip-requires-2 (
-  read-key-reads.Asked,
-  read-key-reads.Learnt,
+  pass-key-reads.Asked,
+  pass-key-reads.Learnt,
   skip-below t,
   skip.Post,
 ) (skip-entry-at t) skip-entry.Post
 skip-entry-skip-requires-2 t c κs = search entry-laws
 
 skip-entry-returns-3 : (t : ℕ) → skip-entry-lts.Need-returns-3 (
-  read-key-reads.Asked,
-  read-key-reads.Learnt,
+  pass-key-reads.Asked,
+  pass-key-reads.Learnt,
   skip-below t,
   skip.Post,
 ) (skip-entry-at t) skip-entry.Post
@@ -297,10 +298,10 @@ pub +skip+skip-entries+skip-entry-spec : {M : Type 1} → statement M
     (skip-entries-loop-again t)
     (skip-entries-returns-2 t))
     λ t. skip-entry-lts.spec
-    (read-key-reads.Asked, read-key-reads.Learnt, skip-below t, skip.Post)
+    (pass-key-reads.Asked, pass-key-reads.Learnt, skip-below t, skip.Post)
     (skip-entry-at t)
     skip-entry.Post
-    (skip-entry-read-key-requires t)
+    (skip-entry-pass-key-requires t)
     (skip-entry-enum-known-k t)
     (skip-entry-returns t)
     (skip-entry-enum-known-k-2 t)
