@@ -126,18 +126,6 @@ pub fn string(doc: &[u8], list: &[u8], at: u64) -> Answer<(u64, u64)> {
     Ok((start as u64, text.len() as u64))
 }
 
-/// The key whose key byte stands at `at`.
-pub fn key<'d>(
-    doc: &'d [u8],
-    list: &'d [u8],
-    keys: &[u32],
-    count: u64,
-    at: u64,
-) -> Answer<Key<'d>> {
-    let (names, at) = open(doc, list, at)?;
-    Walker::asking(doc, names, keys, count).key(at)
-}
-
 /// Place of element `i` of the array at `at`.
 pub fn element(doc: &[u8], list: &[u8], keys: &[u32], count: u64, at: u64, i: u64) -> Answer<u64> {
     let (names, at) = open(doc, list, at)?;
@@ -201,6 +189,18 @@ pub fn first_member(
         }
     }
     Ok(None)
+}
+
+/// The key whose key byte stands at `at`.
+pub fn key<'d>(
+    doc: &'d [u8],
+    list: &'d [u8],
+    keys: &[u32],
+    count: u64,
+    at: u64,
+) -> Answer<Key<'d>> {
+    let (names, at) = open(doc, list, at)?;
+    Walker::asking(doc, names, keys, count).key(at)
 }
 
 /// A text and where it starts in the bytes that hold it.
