@@ -219,14 +219,21 @@ fn read_list(list: &[u8]) -> Answer<Vec<Text<'_>>> {
     let count = read_u16(list, 1).ok_or(Refusal::new(52, 1))?;
     // Each name takes two bytes or more, so that a count alone reserves little.
     let capacity = count.min(list.len() / 2);
-    let mut names = Vec::with_capacity(capacity);
-    let mut met = HashSet::with_capacity(capacity);
+    let mut names: Vec<Text> = Vec::with_capacity(capacity);
+    // Few names are compared with each other, more go through a set.
+    let few = count <= 16;
+    let mut met = HashSet::with_capacity(if few { 0 } else { capacity });
     let mut next = FIRST_NAME;
     for _ in 0..count {
         let length = read_u16(list, next).ok_or(Refusal::new(52, next))?;
         let place = next + 2;
         let bytes = text_at(list, place, length).ok_or(Refusal::new(52, place))?;
-        if !met.insert(bytes) {
+        let repeated = if few {
+            names.iter().any(|name| name.bytes == bytes)
+        } else {
+            !met.insert(bytes)
+        };
+        if repeated {
             return Err(Refusal::new(54, next));
         }
         names.push(Text { place, bytes });
