@@ -114,12 +114,14 @@ fn binary_checks() -> Vec<Row> {
         .collect()
 }
 
-fn fractured_check(name: String, per: usize, tree: &Tree) -> Row {
-    let doc = documents::fractured_json::document(tree);
-    let same = doc.clone();
+/// The check of a tree's document with a key list of these names.
+fn fractured_check(name: String, per: usize, tree: &Tree, names: &[Vec<u8>]) -> Row {
+    let doc = documents::fractured_json::document(tree, names);
+    let list = documents::fractured_json::key_list(names);
+    let (same, same_list) = (doc.clone(), list.clone());
     let (mut keys, mut same_keys) = (vec![0; 8192], vec![0; 8192]);
     assert_eq!(
-        exports::fractured_json::check(&doc, &mut keys).verdict,
+        exports::fractured_json::check(&doc, &list, &mut keys).verdict,
         Ok(()),
         "{name}"
     );
@@ -128,11 +130,16 @@ fn fractured_check(name: String, per: usize, tree: &Tree) -> Row {
         bytes: doc.len(),
         per,
         proved: Box::new(move || {
-            black_box(timed::fractured_json_check(black_box(&doc), &mut keys));
+            black_box(timed::fractured_json_check(
+                black_box(&doc),
+                black_box(&list),
+                &mut keys,
+            ));
         }),
         plain: Box::new(move || {
             let _ = black_box(plain::fractured_json::check(
                 black_box(&same),
+                black_box(&same_list),
                 &mut same_keys,
             ));
         }),
@@ -142,14 +149,14 @@ fn fractured_check(name: String, per: usize, tree: &Tree) -> Row {
 fn fractured_checks() -> Vec<Row> {
     shapes()
         .into_iter()
-        .map(|shape| fractured_check(shape.name, shape.values, &shape.tree))
+        .map(|shape| fractured_check(shape.name, shape.values, &shape.tree, &[]))
         .collect()
 }
 
 fn distinct_keys() -> Vec<Row> {
     [256, 1024, 4096]
         .into_iter()
-        .map(|n| fractured_check(format!("{n} keys"), n, &object(n, false)))
+        .map(|n| fractured_check(format!("{n} keys"), n, &object(n, false), &[]))
         .collect()
 }
 
