@@ -221,17 +221,15 @@ fn read_list(list: &[u8]) -> Answer<Vec<Text<'_>>> {
     let capacity = count.min(list.len() / 2);
     let mut names: Vec<Text> = Vec::with_capacity(capacity);
     // Few names are compared with each other, more go through a set.
-    let few = count <= 16;
-    let mut met = HashSet::with_capacity(if few { 0 } else { capacity });
+    let mut met = (count > 16).then(|| HashSet::with_capacity(capacity));
     let mut next = FIRST_NAME;
     for _ in 0..count {
         let length = read_u16(list, next).ok_or(Refusal::new(52, next))?;
         let place = next + 2;
         let bytes = text_at(list, place, length).ok_or(Refusal::new(52, place))?;
-        let repeated = if few {
-            names.iter().any(|name| name.bytes == bytes)
-        } else {
-            !met.insert(bytes)
+        let repeated = match &mut met {
+            Some(met) => !met.insert(bytes),
+            None => names.iter().any(|name| name.bytes == bytes),
         };
         if repeated {
             return Err(Refusal::new(54, next));
