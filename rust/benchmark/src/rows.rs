@@ -1,6 +1,6 @@
 //! What is timed: each row is one call of the proved reader beside one of the plain reader.
 
-use crate::shapes::{key, object, shapes};
+use crate::shapes::{key, names, object, shapes, sixteen_objects};
 use differential::exports::{self, timed};
 use documents::Tree;
 use std::hint::black_box;
@@ -72,6 +72,13 @@ pub fn tables() -> Vec<Table> {
             "document",
             "ns a key",
             distinct_keys(),
+        ),
+        table(
+            Kind::Growth,
+            "Check, key list",
+            "list",
+            "ns a name",
+            list_checks(),
         ),
         table(
             Kind::Lookups,
@@ -147,9 +154,17 @@ fn fractured_check(name: String, per: usize, tree: &Tree, names: &[Vec<u8>]) -> 
 }
 
 fn fractured_checks() -> Vec<Row> {
+    let names = names(256);
+    let global = sixteen_objects(&names);
     shapes()
         .into_iter()
         .map(|shape| fractured_check(shape.name, shape.values, &shape.tree, &[]))
+        .chain([fractured_check(
+            global.name,
+            global.values,
+            &global.tree,
+            &names,
+        )])
         .collect()
 }
 
@@ -158,6 +173,27 @@ fn distinct_keys() -> Vec<Row> {
         .into_iter()
         .map(|n| fractured_check(format!("{n} keys"), n, &object(n, false), &[]))
         .collect()
+}
+
+fn list_check(count: usize) -> Row {
+    let list = documents::fractured_json::key_list(&names(count));
+    assert_eq!(exports::fractured_json::check_list(&list), Ok(()));
+    let same = list.clone();
+    Row {
+        name: format!("{count} names"),
+        bytes: list.len(),
+        per: count,
+        proved: Box::new(move || {
+            black_box(timed::fractured_json_check_list(black_box(&list)));
+        }),
+        plain: Box::new(move || {
+            let _ = black_box(plain::fractured_json::check_list(black_box(&same)));
+        }),
+    }
+}
+
+fn list_checks() -> Vec<Row> {
+    [256, 4096, 65_535].into_iter().map(list_check).collect()
 }
 
 /// Sixteen keys of an object, or sixteen that it lacks, looked up in turn.

@@ -253,6 +253,10 @@ pub mod timed {
         sys::bj_check(doc, &mut [0; 1])
     }
 
+    pub fn fractured_json_check_list(list: &[u8]) -> u32 {
+        sys::fj_check_list(list, &mut [0; 1])
+    }
+
     pub fn fractured_json_check(doc: &[u8], list: &[u8], keys: &mut [u32]) -> u32 {
         sys::fj_check(doc, list, keys, &mut [0; 2])
     }
