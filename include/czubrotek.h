@@ -2,7 +2,8 @@
 
    A question's cursor is an offset in the document; every cursor, index, count and key is answered or refused. A call
    returns 0 and writes its values over the first of the lent words at `out`, or returns the number of a refusal (document
-   01, "Numbers of refusal") and writes its place over the first. The words that it does not write keep what they held.
+   01, "Numbers of refusal", and document 02, L1) and writes its place over the first. The words that it does not write keep
+   what they held.
    Where fewer words are lent than the call needs, it returns CZUBROTEK_TOO_FEW and writes nothing at all.
 
    A pointer must be good for the length that follows it and not be null, even where that length is 0. What is lent to be
@@ -69,44 +70,63 @@ uint32_t bj_plain_scan(const uint8_t *doc, size_t doc_len, size_t tree, const ui
                        uint64_t *out, size_t out_len);
 
 /* ---- Fractured JSON: `at` is the offset of a value's type byte; the root value is at 3. `keys` is the key table, two words
-   a key, the start and length of its text; its room is half its words rounded down, at most 4,096 */
+   a key, the start and length of its text; its room is half its words rounded down, at most 4,096. `list` is the key list,
+   whose names a document's global indices count from 0: a config byte, a 16-bit count, then for each name its 16-bit length
+   and its text, little endian. The bytes 00 00 00 are a list without names. Every other call gives the refusal that
+   fj_check_list gives, before it looks at the document */
+
+/* Checks a key list.
+   Returns 0 and writes nothing, or a refusal (51 to 54), whose place is an offset in the list; needs 1 word. */
+uint32_t fj_check_list(const uint8_t *list, size_t list_len, uint64_t *out, size_t out_len);
 
 /* Checks a document, and writes the pair of each immediate key passed over the first words of the key table.
-   Returns 0 and writes the number of pairs, or a refusal (31 to 43) and writes its place and that number; needs 2 words. */
-uint32_t fj_check(const uint8_t *doc, size_t doc_len, uint32_t *keys, size_t keys_len, uint64_t *out, size_t out_len);
+   Returns 0 and writes the number of pairs, or a refusal (31 to 43, 51 to 54) and writes its place and that number; needs 2
+   words. */
+uint32_t fj_check(const uint8_t *doc, size_t doc_len, const uint8_t *list, size_t list_len, uint32_t *keys, size_t keys_len,
+                  uint64_t *out, size_t out_len);
 
 /* Asks where a value ends; back references go by the key table and the number of its pairs, `count`.
    Returns 0 and writes the offset after its last byte, or a refusal; needs 1 word. */
-uint32_t fj_end(const uint8_t *doc, size_t doc_len, const uint32_t *keys, size_t keys_len, size_t count, size_t at,
-                uint64_t *out, size_t out_len);
+uint32_t fj_end(const uint8_t *doc, size_t doc_len, const uint8_t *list, size_t list_len, const uint32_t *keys,
+                size_t keys_len, size_t count, size_t at, uint64_t *out, size_t out_len);
 
 /* Asks for the kind of a value.
    Returns 0 and writes 0 null, 1 false, 2 true, 3 number, or 4 string, 5 object, 6 array with its length, or a
    refusal; needs 2 words. */
-uint32_t fj_kind(const uint8_t *doc, size_t doc_len, size_t at, uint64_t *out, size_t out_len);
+uint32_t fj_kind(const uint8_t *doc, size_t doc_len, const uint8_t *list, size_t list_len, size_t at, uint64_t *out,
+                 size_t out_len);
 
 /* Asks for a number.
    Returns 0 and writes its type byte and 64 bits, signed and tiny ints extended by sign, or a refusal; needs 2 words. */
-uint32_t fj_number(const uint8_t *doc, size_t doc_len, size_t at, uint64_t *out, size_t out_len);
+uint32_t fj_number(const uint8_t *doc, size_t doc_len, const uint8_t *list, size_t list_len, size_t at, uint64_t *out,
+                   size_t out_len);
 
 /* Asks for the text of a string.
    Returns 0 and writes the text's offset and length, or a refusal; needs 2 words. */
-uint32_t fj_string(const uint8_t *doc, size_t doc_len, size_t at, uint64_t *out, size_t out_len);
+uint32_t fj_string(const uint8_t *doc, size_t doc_len, const uint8_t *list, size_t list_len, size_t at, uint64_t *out,
+                   size_t out_len);
 
 /* Asks for element i of an array; `keys` and `count` as for fj_end.
    Returns 0 and writes the offset of the element, or a refusal; needs 1 word. */
-uint32_t fj_element(const uint8_t *doc, size_t doc_len, const uint32_t *keys, size_t keys_len, size_t count, size_t at,
-                    size_t i, uint64_t *out, size_t out_len);
+uint32_t fj_element(const uint8_t *doc, size_t doc_len, const uint8_t *list, size_t list_len, const uint32_t *keys,
+                    size_t keys_len, size_t count, size_t at, size_t i, uint64_t *out, size_t out_len);
 
 /* Asks for member j of an object; `keys` and `count` as for fj_end.
    Returns 0 and writes the offsets of its key byte and its value, or a refusal; needs 2 words. */
-uint32_t fj_member(const uint8_t *doc, size_t doc_len, const uint32_t *keys, size_t keys_len, size_t count, size_t at,
-                   size_t j, uint64_t *out, size_t out_len);
+uint32_t fj_member(const uint8_t *doc, size_t doc_len, const uint8_t *list, size_t list_len, const uint32_t *keys,
+                   size_t keys_len, size_t count, size_t at, size_t j, uint64_t *out, size_t out_len);
 
 /* Asks for the first member of an object with a key; `keys` and `count` as for fj_end.
    Returns 0 and writes 1 and the offset of its value, or 0 where the key is absent, or a refusal; needs 2 words. */
-uint32_t fj_first_member(const uint8_t *doc, size_t doc_len, const uint32_t *keys, size_t keys_len, size_t count,
-                         size_t at, const uint8_t *key, size_t key_len, uint64_t *out, size_t out_len);
+uint32_t fj_first_member(const uint8_t *doc, size_t doc_len, const uint8_t *list, size_t list_len, const uint32_t *keys,
+                         size_t keys_len, size_t count, size_t at, const uint8_t *key, size_t key_len, uint64_t *out,
+                         size_t out_len);
+
+/* Asks for a key; `at` is the offset of its key byte, `keys` and `count` as for fj_end.
+   Returns 0 and writes the lender of its text (0 the document, 1 the key list), the text's offset in that lender, its
+   length, and the offset of the value, which starts where the key ends, or a refusal; needs 4 words. */
+uint32_t fj_key(const uint8_t *doc, size_t doc_len, const uint8_t *list, size_t list_len, const uint32_t *keys,
+                size_t keys_len, size_t count, size_t at, uint64_t *out, size_t out_len);
 
 #ifdef __cplusplus
 }

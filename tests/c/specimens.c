@@ -1,5 +1,5 @@
 /* Runs the bench specimens of document 01 through the C header: the fourteen, the lookups with their counts, and the
-   documents at the limits. Prints a line for each failed case, and the number of cases. */
+   documents at the limits; and key lists. Prints a line for each failed case, and the number of cases. */
 #include <inttypes.h>
 #include <stdio.h>
 #include <string.h>
@@ -7,6 +7,9 @@
 #include "czubrotek.h"
 
 enum { longest = 65537, most_keys = 4096, untouched = 77 };
+
+/* key lists: without names, and with the names "a" and "bc" */
+static const uint8_t no_names[] = {0, 0, 0}, a_bc[] = {0, 2, 0, 1, 0, 'a', 2, 0, 'b', 'c'};
 
 static uint8_t doc[longest];
 static size_t len;
@@ -65,9 +68,17 @@ static uint32_t binary(void) {
     return bj_check(doc, len, out, 4);
 }
 
-static uint32_t fractured(size_t words) {
+static uint32_t fractured_with(const uint8_t *list, size_t list_len, size_t words) {
     lend();
-    return fj_check(doc, len, keys, words, out, 4);
+    return fj_check(doc, len, list, list_len, keys, words, out, 4);
+}
+
+static uint32_t fractured(size_t words) { return fractured_with(no_names, 3, words); }
+
+/* the bytes as a key list */
+static uint32_t key_list(void) {
+    lend();
+    return fj_check_list(doc, len, out, 4);
 }
 
 static void binary_accepts(const char *name) { expect(name, binary(), 0, 0, NULL); }
@@ -151,26 +162,26 @@ static void fractured_questions(void) {
     start("464A01A06F0461006F57DF");
     EXPECT("pairs", fractured(2), 0, 1);
     lend();
-    EXPECT("FJ kind", fj_kind(doc, len, 3, out, 4), 0, 6, 2);
+    EXPECT("FJ kind", fj_kind(doc, len, no_names, 3, 3, out, 4), 0, 6, 2);
     lend();
-    EXPECT("FJ end", fj_end(doc, len, keys, 2, 1, 3, out, 4), 0, 11);
+    EXPECT("FJ end", fj_end(doc, len, no_names, 3, keys, 2, 1, 3, out, 4), 0, 11);
     lend();
-    EXPECT("FJ end without the table", fj_end(doc, len, keys, 0, 0, 3, out, 4), 38, 9);
+    EXPECT("FJ end without the table", fj_end(doc, len, no_names, 3, keys, 0, 0, 3, out, 4), 38, 9);
     lend();
-    EXPECT("FJ element", fj_element(doc, len, keys, 2, 1, 3, 1, out, 4), 0, 8);
+    EXPECT("FJ element", fj_element(doc, len, no_names, 3, keys, 2, 1, 3, 1, out, 4), 0, 8);
     lend();
-    EXPECT("FJ member", fj_member(doc, len, keys, 2, 1, 8, 0, out, 4), 0, 9, 10);
+    EXPECT("FJ member", fj_member(doc, len, no_names, 3, keys, 2, 1, 8, 0, out, 4), 0, 9, 10);
     lend();
-    EXPECT("FJ first member a", fj_first_member(doc, len, keys, 2, 1, 8, a, 1, out, 4), 0, 1, 10);
+    EXPECT("FJ first member a", fj_first_member(doc, len, no_names, 3, keys, 2, 1, 8, a, 1, out, 4), 0, 1, 10);
     lend();
-    EXPECT("FJ first member b", fj_first_member(doc, len, keys, 2, 1, 8, b, 1, out, 4), 0, 0);
+    EXPECT("FJ first member b", fj_first_member(doc, len, no_names, 3, keys, 2, 1, 8, b, 1, out, 4), 0, 0);
     lend();
-    EXPECT("FJ number", fj_number(doc, len, 10, out, 4), 0, 0xDF, 1);
+    EXPECT("FJ number", fj_number(doc, len, no_names, 3, 10, out, 4), 0, 0xDF, 1);
     lend();
-    expect("FJ too few words", fj_check(doc, len, keys, 2, out, 1), CZUBROTEK_TOO_FEW, 0, NULL);
+    expect("FJ too few words", fj_check(doc, len, no_names, 3, keys, 2, out, 1), CZUBROTEK_TOO_FEW, 0, NULL);
     start("464A011778");
     lend();
-    EXPECT("FJ string", fj_string(doc, len, 3, out, 4), 0, 4, 1);
+    EXPECT("FJ string", fj_string(doc, len, no_names, 3, 3, out, 4), 0, 4, 1);
 }
 
 /* arrays of one that name the next, the last empty */
@@ -251,16 +262,88 @@ static void limits(void) {
     EXPECT("one key more", fractured(2 * most_keys), 40, 16390, 4096);
 }
 
-/* what a lent key table holds afterwards: the pair of the key passed, and else what it held */
-static void table(void) {
+/* forgets what the first words of the key table hold */
+static void lend_table(void) {
     for (size_t i = 0; i < 4; i++) keys[i] = untouched;
-    start("464A0170046100046101");
-    EXPECT("refused with a pair", fractured(4), 39, 7, 1);
-    const uint32_t want[] = {5, 1, untouched, untouched};
+}
+
+/* the first words of the key table are these two, and then untouched ones */
+static void expect_table(const char *name, uint32_t first, uint32_t second) {
+    const uint32_t want[] = {first, second, untouched, untouched};
     cases++;
     if (memcmp(keys, want, sizeof want) == 0) return;
     failed++;
-    printf("the key table holds %" PRIu32 " %" PRIu32 " %" PRIu32 " %" PRIu32 "\n", keys[0], keys[1], keys[2], keys[3]);
+    printf("%s: the key table holds %" PRIu32 " %" PRIu32 " %" PRIu32 " %" PRIu32 "\n", name, keys[0], keys[1], keys[2],
+           keys[3]);
+}
+
+/* what a lent key table holds afterwards: the pair of the key passed, and else what it held */
+static void table(void) {
+    lend_table();
+    start("464A0170046100046101");
+    EXPECT("refused with a pair", fractured(4), 39, 7, 1);
+    expect_table("refused with a pair", 5, 1);
+}
+
+static void lists(void) {
+    start("000000");
+    expect("no names", key_list(), 0, 0, NULL);
+    start("00020001006102006263");
+    expect("two names", key_list(), 0, 0, NULL);
+    start("01");
+    EXPECT("list with config 01", key_list(), 51, 0);
+    start("");
+    EXPECT("list of no bytes", key_list(), 52, 0);
+    start("0000");
+    EXPECT("list cut in its count", key_list(), 52, 1);
+    start("00010001");
+    EXPECT("list cut in a length", key_list(), 52, 3);
+    start("000100020061");
+    EXPECT("list cut in a text", key_list(), 52, 5);
+    start("00000000");
+    EXPECT("list with a byte left over", key_list(), 53, 3);
+    start("000200010061010061");
+    EXPECT("list with two equal names", key_list(), 54, 6);
+    lend();
+    expect("list, too few words", fj_check_list(doc, len, out, 0), CZUBROTEK_TOO_FEW, 0, NULL);
+
+    /* a bad list comes before 31, and the key table stays */
+    start("");
+    lend_table();
+    EXPECT("bad list, no document", fractured_with(a_bc, 9, 4), 52, 8, 0);
+    start("464A016F046102");
+    EXPECT("bad list, good document", fractured_with(a_bc, 9, 4), 52, 8, 0);
+    expect_table("bad list", untouched, untouched);
+    lend();
+    EXPECT("bad list, kind", fj_kind(doc, len, a_bc, 0, 3, out, 4), 52, 0);
+}
+
+/* {"a":null,"a":true,"bc":false}: an immediate key, a back reference and a global index */
+static void global_keys(void) {
+    const uint8_t b[] = {'b'};
+    start("464A01710461005702AC01");
+    EXPECT("global key", fractured_with(a_bc, 10, 4), 0, 1);
+    EXPECT("global key without names", fractured(4), 38, 9, 1);
+    lend();
+    EXPECT("key in the document", fj_key(doc, len, a_bc, 10, keys, 4, 1, 4, out, 4), 0, 0, 5, 1, 6);
+    lend();
+    EXPECT("key by a back reference", fj_key(doc, len, a_bc, 10, keys, 4, 1, 7, out, 4), 0, 0, 5, 1, 8);
+    lend();
+    EXPECT("key in the list", fj_key(doc, len, a_bc, 10, keys, 4, 1, 9, out, 4), 0, 1, 8, 2, 10);
+    lend();
+    EXPECT("key without names", fj_key(doc, len, no_names, 3, keys, 4, 1, 9, out, 4), 38, 9);
+    lend();
+    EXPECT("key in the header", fj_key(doc, len, a_bc, 10, keys, 4, 1, 2, out, 4), 20, 2);
+    lend();
+    EXPECT("key past the end", fj_key(doc, len, a_bc, 10, keys, 4, 1, 11, out, 4), 35, 11);
+    lend();
+    expect("key, too few words", fj_key(doc, len, a_bc, 10, keys, 4, 1, 4, out, 3), CZUBROTEK_TOO_FEW, 0, NULL);
+    lend();
+    EXPECT("member with a global key", fj_member(doc, len, a_bc, 10, keys, 4, 1, 3, 2, out, 4), 0, 9, 10);
+    lend();
+    EXPECT("first member bc", fj_first_member(doc, len, a_bc, 10, keys, 4, 1, 3, a_bc + 8, 2, out, 4), 0, 1, 10);
+    lend();
+    EXPECT("first member b", fj_first_member(doc, len, a_bc, 10, keys, 4, 1, 3, b, 1, out, 4), 0, 0);
 }
 
 int main(void) {
@@ -269,6 +352,8 @@ int main(void) {
     fractured_questions();
     limits();
     table();
+    lists();
+    global_keys();
     printf("c: %d cases\n", cases);
     return failed != 0;
 }

@@ -1,6 +1,6 @@
 //! What is timed: each row is one call of the proved reader beside one of the plain reader.
 
-use crate::shapes::{key, object, shapes};
+use crate::shapes::{key, names, object, shapes, sixteen_objects};
 use differential::exports::{self, timed};
 use documents::Tree;
 use std::hint::black_box;
@@ -74,6 +74,13 @@ pub fn tables() -> Vec<Table> {
             distinct_keys(),
         ),
         table(
+            Kind::Growth,
+            "Check, key list",
+            "list",
+            "ns a name",
+            list_checks(),
+        ),
+        table(
             Kind::Lookups,
             "Quick lookup",
             "object, key",
@@ -114,12 +121,14 @@ fn binary_checks() -> Vec<Row> {
         .collect()
 }
 
-fn fractured_check(name: String, per: usize, tree: &Tree) -> Row {
-    let doc = documents::fractured_json::document(tree);
-    let same = doc.clone();
+/// The check of a tree's document with a key list of these names.
+fn fractured_check(name: String, per: usize, tree: &Tree, names: &[Vec<u8>]) -> Row {
+    let doc = documents::fractured_json::document(tree, names);
+    let list = documents::fractured_json::key_list(names);
+    let (same, same_list) = (doc.clone(), list.clone());
     let (mut keys, mut same_keys) = (vec![0; 8192], vec![0; 8192]);
     assert_eq!(
-        exports::fractured_json::check(&doc, &mut keys).verdict,
+        exports::fractured_json::check(&doc, &list, &mut keys).verdict,
         Ok(()),
         "{name}"
     );
@@ -128,11 +137,16 @@ fn fractured_check(name: String, per: usize, tree: &Tree) -> Row {
         bytes: doc.len(),
         per,
         proved: Box::new(move || {
-            black_box(timed::fractured_json_check(black_box(&doc), &mut keys));
+            black_box(timed::fractured_json_check(
+                black_box(&doc),
+                black_box(&list),
+                &mut keys,
+            ));
         }),
         plain: Box::new(move || {
             let _ = black_box(plain::fractured_json::check(
                 black_box(&same),
+                black_box(&same_list),
                 &mut same_keys,
             ));
         }),
@@ -140,17 +154,46 @@ fn fractured_check(name: String, per: usize, tree: &Tree) -> Row {
 }
 
 fn fractured_checks() -> Vec<Row> {
+    let names = names(256);
+    let global = sixteen_objects(&names);
     shapes()
         .into_iter()
-        .map(|shape| fractured_check(shape.name, shape.values, &shape.tree))
+        .map(|shape| fractured_check(shape.name, shape.values, &shape.tree, &[]))
+        .chain([fractured_check(
+            global.name,
+            global.values,
+            &global.tree,
+            &names,
+        )])
         .collect()
 }
 
 fn distinct_keys() -> Vec<Row> {
     [256, 1024, 4096]
         .into_iter()
-        .map(|n| fractured_check(format!("{n} keys"), n, &object(n, false)))
+        .map(|n| fractured_check(format!("{n} keys"), n, &object(n, false), &[]))
         .collect()
+}
+
+fn list_check(count: usize) -> Row {
+    let list = documents::fractured_json::key_list(&names(count));
+    assert_eq!(exports::fractured_json::check_list(&list), Ok(()));
+    let same = list.clone();
+    Row {
+        name: format!("{count} names"),
+        bytes: list.len(),
+        per: count,
+        proved: Box::new(move || {
+            black_box(timed::fractured_json_check_list(black_box(&list)));
+        }),
+        plain: Box::new(move || {
+            let _ = black_box(plain::fractured_json::check_list(black_box(&same)));
+        }),
+    }
+}
+
+fn list_checks() -> Vec<Row> {
+    [256, 4096, 65_535].into_iter().map(list_check).collect()
 }
 
 /// Sixteen keys of an object, or sixteen that it lacks, looked up in turn.

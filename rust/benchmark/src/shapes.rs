@@ -83,6 +83,20 @@ pub fn object(members: usize, prefixed: bool) -> Tree {
     )
 }
 
+/// The names of a key list, twelve bytes each.
+pub fn names(count: usize) -> Vec<Vec<u8>> {
+    (0..count)
+        .map(|i| format!("sensor/{i:05}").into_bytes())
+        .collect()
+}
+
+/// Sixteen objects with all these keys each.
+pub fn sixteen_objects(keys: &[Vec<u8>]) -> Shape {
+    let object = || Tree::Object(keys.iter().map(|k| (k.clone(), Tree::Null)).collect());
+    let tree = Tree::Array((0..16).map(|_| object()).collect());
+    shape(format!("16 objects of {} global keys", keys.len()), tree)
+}
+
 fn levels(n: usize) -> Tree {
     (0..n).fold(Tree::Array(vec![]), |inner, _| {
         Tree::Object(vec![

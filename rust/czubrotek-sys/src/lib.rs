@@ -76,14 +76,16 @@ functions! {
     fn bj_quick_lookup(&[u8] doc, u64 tree, &[u8] key);
     fn bj_plain_scan(&[u8] doc, u64 tree, &[u8] key);
 
-    fn fj_check(&[u8] doc, &mut [u32] keys);
-    fn fj_end(&[u8] doc, &[u32] keys, u64 count, u64 at);
-    fn fj_kind(&[u8] doc, u64 at);
-    fn fj_number(&[u8] doc, u64 at);
-    fn fj_string(&[u8] doc, u64 at);
-    fn fj_element(&[u8] doc, &[u32] keys, u64 count, u64 at, u64 i);
-    fn fj_member(&[u8] doc, &[u32] keys, u64 count, u64 at, u64 j);
-    fn fj_first_member(&[u8] doc, &[u32] keys, u64 count, u64 at, &[u8] key);
+    fn fj_check_list(&[u8] list);
+    fn fj_check(&[u8] doc, &[u8] list, &mut [u32] keys);
+    fn fj_end(&[u8] doc, &[u8] list, &[u32] keys, u64 count, u64 at);
+    fn fj_kind(&[u8] doc, &[u8] list, u64 at);
+    fn fj_number(&[u8] doc, &[u8] list, u64 at);
+    fn fj_string(&[u8] doc, &[u8] list, u64 at);
+    fn fj_element(&[u8] doc, &[u8] list, &[u32] keys, u64 count, u64 at, u64 i);
+    fn fj_member(&[u8] doc, &[u8] list, &[u32] keys, u64 count, u64 at, u64 j);
+    fn fj_first_member(&[u8] doc, &[u8] list, &[u32] keys, u64 count, u64 at, &[u8] key);
+    fn fj_key(&[u8] doc, &[u8] list, &[u32] keys, u64 count, u64 at);
 }
 
 #[cfg(test)]

@@ -1,4 +1,4 @@
-//! Fractured JSON (FJ): the check with a lent key table, the questions, and a view of the tree.
+//! Fractured JSON (FJ): the check with a lent key table and key list, the questions, and a view of the tree.
 //!
 //! A document is the bytes 46 4A 01 and one value. A value is known by the offset of its type byte. A key's text stands
 //! where it is first used and is referred to by number afterwards, so reading keys needs the key table that the check
@@ -28,6 +28,25 @@
 //! # Ok::<(), czubrotek::Refusal>(())
 //! ```
 //!
+//! A key may also be the number of a name in a [key list](KeyList), which documents share and the caller lends beside each:
+//!
+//! ```
+//! use czubrotek::fractured_json::{Document, KeyList, KeyTable};
+//!
+//! // the names "air" and "soil"
+//! let list = KeyList::check(b"\x00\x02\x00\x03\x00air\x04\x00soil")?;
+//! // {"soil":14}, with the key as name 1
+//! let bytes = b"\x46\x4A\x01\x6F\xAC\xEC";
+//! let mut keys = KeyTable::new();
+//! let document = Document::check_with_list(bytes, list, &mut keys)?;
+//! let value = document.first_member(document.root(), b"soil")?.expect("a member");
+//! assert_eq!(document.number(value)?.to_f64(), 14.0);
+//!
+//! // without the list there is no such key
+//! assert_eq!(Document::check(bytes, &mut keys).unwrap_err().refusal.number, 38);
+//! # Ok::<(), czubrotek::Refusal>(())
+//! ```
+//!
 //! Refuse. The caller still has the table that it lent, and the number of keys in it:
 //!
 //! ```
@@ -42,10 +61,8 @@
 //! assert_eq!(words, [5, 1, 7, 7]);
 //! ```
 
-mod key;
 mod value;
 
-pub use key::Key;
 pub use value::{Array, Elements, Members, Object, Value};
 
 use crate::{Refusal, ask, range};
@@ -90,6 +107,28 @@ pub struct Member {
     /// The key byte.
     pub key: KeyOffset,
     /// The value.
+    pub value: ValueOffset,
+}
+
+/// Which of the lent bytes hold a key's text.
+#[derive(Debug, Clone, Copy, PartialEq, Eq, Hash)]
+pub enum Lender {
+    /// The document: the key is immediate, or a back reference.
+    Document,
+    /// The key list: the key is a global index.
+    KeyList,
+}
+
+/// A key: its text, and the value that follows it.
+#[derive(Debug, Clone, Copy, PartialEq, Eq, Hash)]
+pub struct Key<'a> {
+    /// The text, which need not be UTF-8.
+    pub text: &'a [u8],
+    /// Who holds the text.
+    pub lender: Lender,
+    /// Where the text starts in its lender.
+    pub place: usize,
+    /// Where the key ends and its value starts.
     pub value: ValueOffset,
 }
 
@@ -186,6 +225,38 @@ impl DerefMut for KeyTable {
     }
 }
 
+/// A checked key list: names, none twice, that the global indices of documents count from 0.
+///
+/// Its bytes are a config byte 0 and a 16-bit count, then for each name its 16-bit length and its text, little endian.
+#[derive(Debug, Clone, Copy, PartialEq, Eq, Hash)]
+pub struct KeyList<'a> {
+    bytes: &'a [u8],
+}
+
+impl<'a> KeyList<'a> {
+    /// The list without names.
+    pub const EMPTY: KeyList<'static> = KeyList { bytes: &[0, 0, 0] };
+
+    /// Checks the bytes: exactly those that keep every rule of key lists are accepted. Refusals 51 to 54.
+    ///
+    /// ```
+    /// use czubrotek::{Refusal, fractured_json::KeyList};
+    ///
+    /// // the name "a", twice
+    /// let refusal = KeyList::check(b"\x00\x02\x00\x01\x00a\x01\x00a").unwrap_err();
+    /// assert_eq!(refusal, Refusal { number: 54, place: 6 });
+    /// ```
+    pub fn check(bytes: &'a [u8]) -> Result<KeyList<'a>, Refusal> {
+        ask::<1>(|out| sys::fj_check_list(bytes, out))?;
+        Ok(KeyList { bytes })
+    }
+
+    /// The list's bytes.
+    pub fn bytes(&self) -> &'a [u8] {
+        self.bytes
+    }
+}
+
 /// The refusal of a check, with the number of keys passed before it. Their pairs stand in the first words of the lent key
 /// table; all its other words are as they were.
 #[derive(Debug, Clone, Copy, PartialEq, Eq, Hash)]
@@ -210,21 +281,36 @@ impl From<Refused> for Refusal {
     }
 }
 
-/// A Fractured JSON document with its key table, checked or not.
+/// A Fractured JSON document with its key list and key table, checked or not.
 #[derive(Debug, Clone, Copy)]
 pub struct Document<'a> {
     bytes: &'a [u8],
+    list: KeyList<'a>,
     words: &'a [u32],
     count: u64,
 }
 
 impl<'a> Document<'a> {
     /// Checks the bytes: exactly those that keep every rule, and for whose keys the table has room, are accepted. The
-    /// table's room is half its words rounded down, at most [`MOST_KEYS`].
+    /// table's room is half its words rounded down, at most [`MOST_KEYS`]. The key list has no names.
     pub fn check(bytes: &'a [u8], words: &'a mut [u32]) -> Result<Document<'a>, Refused> {
+        Document::check_with_list(bytes, KeyList::EMPTY, words)
+    }
+
+    /// Checks as [`check`](Document::check) does, with a key list.
+    pub fn check_with_list(
+        bytes: &'a [u8],
+        list: KeyList<'a>,
+        words: &'a mut [u32],
+    ) -> Result<Document<'a>, Refused> {
         let mut out = [0; 2];
-        match (sys::fj_check(bytes, words, &mut out), out) {
-            (0, [count, _]) => Ok(Document::unchecked(bytes, words, count as usize)),
+        match (sys::fj_check(bytes, list.bytes, words, &mut out), out) {
+            (0, [count, _]) => Ok(Document::unchecked_with_list(
+                bytes,
+                list,
+                words,
+                count as usize,
+            )),
             (number, [place, count]) => Err(Refused {
                 refusal: Refusal { number, place },
                 count: count as usize,
@@ -234,6 +320,7 @@ impl<'a> Document<'a> {
 
     /// Takes the bytes, the key table's words and the number of pairs in it as they are. Every question is answered or
     /// refused (20 to 22, 31 to 38, 41, 43); back references go by the table handed in. Nothing bounds how deep values nest.
+    /// The key list has no names.
     ///
     /// ```
     /// use czubrotek::fractured_json::{Document, Kind, ValueOffset};
@@ -246,8 +333,19 @@ impl<'a> Document<'a> {
     /// # Ok::<(), czubrotek::Refusal>(())
     /// ```
     pub fn unchecked(bytes: &'a [u8], words: &'a [u32], count: usize) -> Document<'a> {
+        Document::unchecked_with_list(bytes, KeyList::EMPTY, words, count)
+    }
+
+    /// Takes everything as [`unchecked`](Document::unchecked) does, with a key list.
+    pub fn unchecked_with_list(
+        bytes: &'a [u8],
+        list: KeyList<'a>,
+        words: &'a [u32],
+        count: usize,
+    ) -> Document<'a> {
         Document {
             bytes,
+            list,
             words,
             count: count as u64,
         }
@@ -256,6 +354,11 @@ impl<'a> Document<'a> {
     /// The document's bytes.
     pub fn bytes(&self) -> &'a [u8] {
         self.bytes
+    }
+
+    /// The key list.
+    pub fn list(&self) -> KeyList<'a> {
+        self.list
     }
 
     /// The words of the key table.
@@ -275,13 +378,14 @@ impl<'a> Document<'a> {
 
     /// Where a value ends: the offset after its last byte.
     pub fn end(&self, at: ValueOffset) -> Result<u64, Refusal> {
-        let [end] = ask(|out| sys::fj_end(self.bytes, self.words, self.count, at.0, out))?;
+        let (doc, list, keys, count) = self.lent();
+        let [end] = ask(|out| sys::fj_end(doc, list, keys, count, at.0, out))?;
         Ok(end)
     }
 
     /// The kind of a value.
     pub fn kind(&self, at: ValueOffset) -> Result<Kind, Refusal> {
-        let [kind, len] = ask(|out| sys::fj_kind(self.bytes, at.0, out))?;
+        let [kind, len] = ask(|out| sys::fj_kind(self.bytes, self.list.bytes, at.0, out))?;
         Ok(match kind {
             0 => Kind::Null,
             1 => Kind::False,
@@ -312,7 +416,7 @@ impl<'a> Document<'a> {
 
     /// A number as it is stored.
     pub fn number_bits(&self, at: ValueOffset) -> Result<NumberBits, Refusal> {
-        let [type_byte, bits] = ask(|out| sys::fj_number(self.bytes, at.0, out))?;
+        let [type_byte, bits] = ask(|out| sys::fj_number(self.bytes, self.list.bytes, at.0, out))?;
         Ok(NumberBits {
             type_byte: type_byte as u8,
             bits,
@@ -321,31 +425,26 @@ impl<'a> Document<'a> {
 
     /// The text of a string. Texts are bytes, and need not be UTF-8.
     pub fn string(&self, at: ValueOffset) -> Result<&'a [u8], Refusal> {
-        // The library answers with no part that lies outside; one that did would be 35 at the value.
-        let outside = Refusal {
-            number: 35,
-            place: at.0,
-        };
-        self.bytes.get(self.string_range(at)?).ok_or(outside)
+        part(self.bytes, self.string_range(at)?, at.0)
     }
 
     /// Where the text of a string stands in the document.
     pub fn string_range(&self, at: ValueOffset) -> Result<Range<usize>, Refusal> {
-        let [place, len] = ask(|out| sys::fj_string(self.bytes, at.0, out))?;
+        let [place, len] = ask(|out| sys::fj_string(self.bytes, self.list.bytes, at.0, out))?;
         Ok(range(place, len))
     }
 
     /// Element `i` of an array. It walks the elements before it; [`Array::iter`] walks each once.
     pub fn element(&self, at: ValueOffset, i: usize) -> Result<ValueOffset, Refusal> {
-        let [value] =
-            ask(|out| sys::fj_element(self.bytes, self.words, self.count, at.0, i as u64, out))?;
+        let (doc, list, keys, count) = self.lent();
+        let [value] = ask(|out| sys::fj_element(doc, list, keys, count, at.0, i as u64, out))?;
         Ok(ValueOffset(value))
     }
 
     /// Member `j` of an object. It walks the members before it; [`Object::iter`] walks each once.
     pub fn member(&self, at: ValueOffset, j: usize) -> Result<Member, Refusal> {
-        let [key, value] =
-            ask(|out| sys::fj_member(self.bytes, self.words, self.count, at.0, j as u64, out))?;
+        let (doc, list, keys, count) = self.lent();
+        let [key, value] = ask(|out| sys::fj_member(doc, list, keys, count, at.0, j as u64, out))?;
         Ok(Member {
             key: KeyOffset(key),
             value: ValueOffset(value),
@@ -358,8 +457,57 @@ impl<'a> Document<'a> {
         at: ValueOffset,
         key: &[u8],
     ) -> Result<Option<ValueOffset>, Refusal> {
+        let (doc, list, keys, count) = self.lent();
         let [found, value] =
-            ask(|out| sys::fj_first_member(self.bytes, self.words, self.count, at.0, key, out))?;
+            ask(|out| sys::fj_first_member(doc, list, keys, count, at.0, key, out))?;
         Ok((found == 1).then_some(ValueOffset(value)))
     }
+
+    /// The key at a key byte.
+    ///
+    /// ```
+    /// use czubrotek::fractured_json::{Document, KeyList, KeyTable, Lender};
+    ///
+    /// // {"a":true,"air":null}, with "air" as name 0 of the key list
+    /// let list = KeyList::check(b"\x00\x01\x00\x03\x00air")?;
+    /// let mut keys = KeyTable::new();
+    /// let document = Document::check_with_list(b"\x46\x4A\x01\x70\x04a\x02\xAB\x00", list, &mut keys)?;
+    /// let member = document.member(document.root(), 0)?;
+    /// let key = document.read_key(member.key)?;
+    /// assert_eq!((key.text, key.lender, key.value), (&b"a"[..], Lender::Document, member.value));
+    /// let member = document.member(document.root(), 1)?;
+    /// let key = document.read_key(member.key)?;
+    /// assert_eq!((key.text, key.lender, key.value), (&b"air"[..], Lender::KeyList, member.value));
+    /// # Ok::<(), czubrotek::Refusal>(())
+    /// ```
+    pub fn read_key(&self, at: KeyOffset) -> Result<Key<'a>, Refusal> {
+        let (doc, list, keys, count) = self.lent();
+        let [lender, place, len, value] =
+            ask(|out| sys::fj_key(doc, list, keys, count, at.0, out))?;
+        let (lender, bytes) = match lender {
+            0 => (Lender::Document, doc),
+            // 1: the library's contract leaves no other
+            _ => (Lender::KeyList, list),
+        };
+        Ok(Key {
+            text: part(bytes, range(place, len), at.0)?,
+            lender,
+            place: place as usize,
+            value: ValueOffset(value),
+        })
+    }
+
+    /// What a call is lent: the bytes of the document and of the key list, the key table and the number of its pairs.
+    fn lent(&self) -> (&'a [u8], &'a [u8], &'a [u32], u64) {
+        (self.bytes, self.list.bytes, self.words, self.count)
+    }
+}
+
+/// A part of lent bytes. The library answers with none that lies outside; one that did would be 35 at the cursor.
+fn part(bytes: &[u8], range: Range<usize>, cursor: u64) -> Result<&[u8], Refusal> {
+    let outside = Refusal {
+        number: 35,
+        place: cursor,
+    };
+    bytes.get(range).ok_or(outside)
 }

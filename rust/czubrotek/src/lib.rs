@@ -1,8 +1,7 @@
 //! Proved readers for two binary JSON formats, [BinaryJson](binary_json) and [Fractured JSON](fractured_json).
 //!
-//! Every answer is the proved library's; this package gives it Rust's types, and reads only the keys of Fractured JSON by
-//! itself ([`fractured_json::Document::read_key`]). A `Document` borrows its bytes and copies nothing. Nothing panics, on
-//! any bytes, cursor or key.
+//! Every answer is the proved library's; this package gives it Rust's types. A `Document` borrows its bytes and copies
+//! nothing. Nothing panics, on any bytes, cursor or key.
 //!
 //! A document comes from `check`, which accepts exactly the bytes that keep the format's rules, or from `unchecked`. Every
 //! question may be asked of either, with any cursor, and gives its answer or a [`Refusal`]. In a checked document no step

@@ -1,11 +1,12 @@
-//! Why a document or a question was refused.
+//! Why a document, a key list or a question was refused.
 
 use std::error::Error;
 use std::fmt;
 
 /// A refusal: the number of the first rule that failed, and the place where it failed.
 ///
-/// The place is an offset in the document, or a question's cursor; for 1, 2, 31 and 32 it is the document's length.
+/// The place is an offset in the document, or a question's cursor; for 1, 2, 31 and 32 it is the document's length, for 51 to
+/// 54 an offset in the key list.
 ///
 /// ```
 /// use czubrotek::binary_json::Document;
@@ -66,6 +67,10 @@ impl Refusal {
             41 => "nested over 32",
             42 => "bytes after the root",
             43 => "float not finite",
+            51 => "key list: config not 0",
+            52 => "key list: bytes run out",
+            53 => "key list: bytes left over",
+            54 => "key list: two equal names",
             _ => "no number of the tables",
         }
     }
@@ -140,6 +145,10 @@ mod tests {
             (41, "nested over 32"),
             (42, "bytes after the root"),
             (43, "float not finite"),
+            (51, "key list: config not 0"),
+            (52, "key list: bytes run out"),
+            (53, "key list: bytes left over"),
+            (54, "key list: two equal names"),
         ];
         for (number, sentence) in sentences {
             let refusal = Refusal { number, place: 8 };
@@ -152,7 +161,7 @@ mod tests {
 
     #[test]
     fn every_other_number_says_so() {
-        for number in [0, 14, 19, 23, 30, 44, 255] {
+        for number in [0, 14, 19, 23, 30, 44, 50, 55, 255] {
             let refusal = Refusal { number, place: 8 };
             assert_eq!(refusal.meaning(), "no number of the tables");
         }

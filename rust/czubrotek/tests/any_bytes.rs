@@ -153,20 +153,24 @@ fn binary_json() {
 
 #[test]
 fn fractured_json() {
-    use fractured_json::{Document, KeyOffset, ValueOffset};
+    use fractured_json::{Document, KeyList, KeyOffset, ValueOffset};
     let specimens = [
         "464A016F046102",
         "464A01A0BEFD",
         "464A01A06F0461006F57DF",
         "464A0170046100046101",
         "464A01A20C000000000000F03F0B0000803F0E0100610D0018",
+        "464A0171AB000461020201BE",
     ];
+    let names = "00020001006102006263";
     let mut numbers = Numbers(0x2545_F491_4F6C_DD1D);
     let mut values = 0;
     for turn in 0..200_000 {
         let bytes = numbers.spoil(specimens[turn % specimens.len()]);
         let mut words = [numbers.cursor() as u32, numbers.cursor() as u32, 5, 1, 7];
-        let document = Document::unchecked(&bytes, &words, turn % 4);
+        let names = [hex(names), numbers.spoil(names)];
+        let list = KeyList::check(&names[turn % 2]).unwrap_or(KeyList::EMPTY);
+        let document = Document::unchecked_with_list(&bytes, list, &words, turn % 4);
         let (at, index) = (ValueOffset(numbers.cursor()), numbers.cursor() as usize);
         let _ = document.end(at);
         let _ = document.kind(at);
@@ -176,10 +180,9 @@ fn fractured_json() {
         let _ = document.member(at, index);
         let _ = document.first_member(at, b"a");
         let _ = document.read_key(KeyOffset(at.0));
-        let _ = document.key(index);
         let _ = document.value_at(at);
         values += document.value().map_or(0, fractured_walk);
-        if let Ok(document) = Document::check(&bytes, &mut words) {
+        if let Ok(document) = Document::check_with_list(&bytes, list, &mut words) {
             assert!(fractured_whole(document.value().unwrap()), "{bytes:02X?}");
         }
     }

@@ -280,7 +280,9 @@ fn a_full_key_table_and_one_key_more() {
     let full = object(4096);
     let document = Document::check(&full, &mut words).unwrap();
     assert_eq!(document.count(), 4096);
-    assert_eq!(document.key(4095), Some(&4095u16.to_le_bytes()[..]));
+    let last = document.member(document.root(), 4095).unwrap();
+    let key = document.read_key(last.key).unwrap();
+    assert_eq!(key.text, 4095u16.to_le_bytes());
     assert_eq!(document.words()[8190..], [16_387, 2, 9, 9]);
     let refusal = Refusal {
         number: 40,

@@ -121,16 +121,20 @@ pub mod binary_json {
 
 pub mod fractured_json {
     use super::*;
-    use plain::fractured_json::Checked;
+    use plain::fractured_json::{Checked, Key, Lender};
+
+    pub fn check_list(list: &[u8]) -> Answer<()> {
+        ask(|out| sys::fj_check_list(list, out), |_: &[u64; 1]| ((), 0))
+    }
 
     /// The check, with the key table lent.
-    pub fn check(doc: &[u8], keys: &mut [u32]) -> Checked {
+    pub fn check(doc: &[u8], list: &[u8], keys: &mut [u32]) -> Checked {
         let mut out = [BEFORE; 2];
         // too few words: nothing is written anywhere
         let before = keys.to_vec();
-        let few = sys::fj_check(doc, keys, &mut out[..1]);
+        let few = sys::fj_check(doc, list, keys, &mut out[..1]);
         assert_eq!((few, out, &*keys), (sys::TOO_FEW, [BEFORE; 2], &*before));
-        let number = sys::fj_check(doc, keys, &mut out);
+        let number = sys::fj_check(doc, list, keys, &mut out);
         if number == 0 {
             assert_eq!(out[1], BEFORE);
             return Checked {
@@ -147,13 +151,13 @@ pub mod fractured_json {
         }
     }
 
-    pub fn end(doc: &[u8], keys: &[u32], count: u64, at: u64) -> Answer<u64> {
-        ask(|out| sys::fj_end(doc, keys, count, at, out), one)
+    pub fn end(doc: &[u8], list: &[u8], keys: &[u32], count: u64, at: u64) -> Answer<u64> {
+        ask(|out| sys::fj_end(doc, list, keys, count, at, out), one)
     }
 
-    pub fn kind(doc: &[u8], at: u64) -> Answer<(u64, Option<u64>)> {
+    pub fn kind(doc: &[u8], list: &[u8], at: u64) -> Answer<(u64, Option<u64>)> {
         ask(
-            |out| sys::fj_kind(doc, at, out),
+            |out| sys::fj_kind(doc, list, at, out),
             |&[kind, len]| match kind {
                 0..=3 => ((kind, None), 1),
                 _ => ((kind, Some(len)), 2),
@@ -161,35 +165,82 @@ pub mod fractured_json {
         )
     }
 
-    pub fn number(doc: &[u8], at: u64) -> Answer<(u8, u64)> {
+    pub fn number(doc: &[u8], list: &[u8], at: u64) -> Answer<(u8, u64)> {
         ask(
-            |out| sys::fj_number(doc, at, out),
+            |out| sys::fj_number(doc, list, at, out),
             |&[type_byte, bits]| ((type_byte as u8, bits), 2),
         )
     }
 
-    pub fn string(doc: &[u8], at: u64) -> Answer<(u64, u64)> {
-        ask(|out| sys::fj_string(doc, at, out), two)
+    pub fn string(doc: &[u8], list: &[u8], at: u64) -> Answer<(u64, u64)> {
+        ask(|out| sys::fj_string(doc, list, at, out), two)
     }
 
-    pub fn element(doc: &[u8], keys: &[u32], count: u64, at: u64, i: u64) -> Answer<u64> {
-        ask(|out| sys::fj_element(doc, keys, count, at, i, out), one)
+    pub fn element(
+        doc: &[u8],
+        list: &[u8],
+        keys: &[u32],
+        count: u64,
+        at: u64,
+        i: u64,
+    ) -> Answer<u64> {
+        ask(
+            |out| sys::fj_element(doc, list, keys, count, at, i, out),
+            one,
+        )
     }
 
-    pub fn member(doc: &[u8], keys: &[u32], count: u64, at: u64, j: u64) -> Answer<(u64, u64)> {
-        ask(|out| sys::fj_member(doc, keys, count, at, j, out), two)
+    pub fn member(
+        doc: &[u8],
+        list: &[u8],
+        keys: &[u32],
+        count: u64,
+        at: u64,
+        j: u64,
+    ) -> Answer<(u64, u64)> {
+        ask(
+            |out| sys::fj_member(doc, list, keys, count, at, j, out),
+            two,
+        )
     }
 
     pub fn first_member(
         doc: &[u8],
+        list: &[u8],
         keys: &[u32],
         count: u64,
         at: u64,
         key: &[u8],
     ) -> Answer<Option<u64>> {
         ask(
-            |out| sys::fj_first_member(doc, keys, count, at, key, out),
+            |out| sys::fj_first_member(doc, list, keys, count, at, key, out),
             found,
+        )
+    }
+
+    pub fn key<'d>(
+        doc: &'d [u8],
+        list: &'d [u8],
+        keys: &[u32],
+        count: u64,
+        at: u64,
+    ) -> Answer<Key<'d>> {
+        ask(
+            |out| sys::fj_key(doc, list, keys, count, at, out),
+            |&[lender, place, len, value]| {
+                let (lender, bytes) = match lender {
+                    0 => (Lender::Document, doc),
+                    1 => (Lender::KeyList, list),
+                    _ => panic!("no lender has the number {lender}"),
+                };
+                let key = Key {
+                    lender,
+                    place: place as usize,
+                    text: &bytes[place as usize..][..len as usize],
+                    end: value as usize,
+                };
+                (key, 4)
+            },
         )
     }
 }
@@ -202,8 +253,12 @@ pub mod timed {
         sys::bj_check(doc, &mut [0; 1])
     }
 
-    pub fn fractured_json_check(doc: &[u8], keys: &mut [u32]) -> u32 {
-        sys::fj_check(doc, keys, &mut [0; 2])
+    pub fn fractured_json_check_list(list: &[u8]) -> u32 {
+        sys::fj_check_list(list, &mut [0; 1])
+    }
+
+    pub fn fractured_json_check(doc: &[u8], list: &[u8], keys: &mut [u32]) -> u32 {
+        sys::fj_check(doc, list, keys, &mut [0; 2])
     }
 
     pub fn quick_lookup(doc: &[u8], tree: u64, key: &[u8]) -> [u64; 4] {

@@ -1,13 +1,52 @@
-//! Fractured JSON documents that keep the rules, but for what is spoilt by chance.
+//! Key lists and Fractured JSON documents that keep the rules, but for what is spoilt by chance.
 
 use crate::random::Random;
+use crate::spoil::spoil;
 use documents::fractured_json::{
-    ARRAY, BACK_REFERENCE, Form, GLOBAL_INDEX, IMMEDIATE, OBJECT, STRING, least_v_uint16,
+    ARRAY, BACK_REFERENCE, Form, GLOBAL_INDEX, IMMEDIATE, OBJECT, STRING, key_list, least_v_uint16,
 };
+
+/// The names of a key list, none twice: few, as short as most keys, or several hundred.
+pub fn names(random: &mut Random) -> Vec<Vec<u8>> {
+    if random.once_in(4_000) {
+        let count = 200 + random.below(500) as u16;
+        return (0..count)
+            .map(|n| [&n.to_le_bytes(), &random.text(10)[..]].concat())
+            .collect();
+    }
+    let mut names = Vec::new();
+    for _ in 0..random.below(6) {
+        let name = random.text(3);
+        if !names.contains(&name) {
+            names.push(name);
+        }
+    }
+    names
+}
+
+/// A key list of these names, by chance with a name twice, cut, with bytes left over, with another config or spoilt.
+pub fn list(random: &mut Random, names: &[Vec<u8>]) -> Vec<u8> {
+    let mut names = names.to_vec();
+    if !names.is_empty() && random.once_in(60) {
+        let twice = names[random.below(names.len())].clone();
+        names.insert(random.below(names.len() + 1), twice);
+    }
+    let mut list = key_list(&names);
+    match random.below(60) {
+        0 => list.truncate(random.below(list.len())),
+        1 => list.extend(&random.bits().to_le_bytes()[random.below(8)..]),
+        2 => list[0] = 1 + random.below(255) as u8,
+        3 => spoil(random, &mut list),
+        _ => {}
+    }
+    list
+}
 
 struct Writer<'a> {
     random: &'a mut Random,
     doc: Vec<u8>,
+    /// The names of the key list.
+    names: &'a [Vec<u8>],
     /// The immediate keys so far.
     keys: Vec<Vec<u8>>,
 }
@@ -30,7 +69,12 @@ impl Writer<'_> {
 
     fn key(&mut self) {
         if self.random.once_in(60) {
-            let n = self.random.below(90);
+            // at the count of names or past it
+            let n = self.names.len() + self.random.pick(&[0, 0, 1, 80, 300, 20_000]);
+            return self.key_number(&GLOBAL_INDEX, n);
+        }
+        if !self.names.is_empty() && self.random.once_in(4) {
+            let n = self.random.below(self.names.len());
             return self.key_number(&GLOBAL_INDEX, n);
         }
         if !self.keys.is_empty() && self.random.once_in(2) {
@@ -39,8 +83,12 @@ impl Writer<'_> {
             let n = self.random.below(self.keys.len() + beyond);
             return self.key_number(&BACK_REFERENCE, n);
         }
-        let most = if self.random.once_in(30) { 90 } else { 3 };
-        let text = self.random.text(most);
+        let text = if !self.names.is_empty() && self.random.once_in(6) {
+            self.names[self.random.below(self.names.len())].clone()
+        } else {
+            let most = if self.random.once_in(30) { 90 } else { 3 };
+            self.random.text(most)
+        };
         if self.keys.contains(&text) && !self.random.once_in(40) {
             let n = self.keys.iter().position(|k| *k == text).unwrap_or(0);
             return self.key_number(&BACK_REFERENCE, n);
@@ -128,13 +176,14 @@ impl Writer<'_> {
     }
 }
 
-/// A document: nested by chance, or a chain of containers about as deep as may be.
-pub fn document(random: &mut Random) -> Vec<u8> {
+/// A document with global keys out of these names: nested by chance, or a chain of containers about as deep as may be.
+pub fn document(random: &mut Random, names: &[Vec<u8>]) -> Vec<u8> {
     let deep = random.once_in(12);
     let levels = if deep { 29 + random.below(6) } else { 5 };
     let mut writer = Writer {
         random,
         doc: b"FJ\x01".to_vec(),
+        names,
         keys: Vec::new(),
     };
     if deep {

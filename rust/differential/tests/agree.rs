@@ -32,7 +32,7 @@ macro_rules! both {
 }
 
 /// A document of a seed: as made, or spoilt once or a few times.
-fn made(random: &mut Random, document: fn(&mut Random) -> Vec<u8>) -> Vec<u8> {
+fn made(random: &mut Random, document: impl FnOnce(&mut Random) -> Vec<u8>) -> Vec<u8> {
     let mut doc = document(random);
     for _ in 0..random.pick(&[0, 0, 1, 1, 1, 2, 4]) {
         spoil(random, &mut doc);
@@ -118,34 +118,44 @@ fn binary_json(seed: u64) -> usize {
 }
 
 fn fractured_json(seed: u64) -> usize {
+    use differential::fractured_json as make;
     use exports::fractured_json as proved;
     use plain::fractured_json as plain;
     let random = &mut Random::new(!seed);
-    let doc = &made(random, differential::fractured_json::document);
-    let mut table = differential::fractured_json::table(random);
+    let names = make::names(random);
+    let list = &make::list(random, &names)[..];
+    let doc = &made(random, |random| make::document(random, &names))[..];
+    both!(seed, list: check_list());
+    let mut table = make::table(random);
     let mut other = table.clone();
-    let checked = proved::check(doc, &mut table);
-    let plainly = plain::check(doc, &mut other);
+    let checked = proved::check(doc, list, &mut table);
+    let plainly = plain::check(doc, list, &mut other);
     same!(
         doc,
         (checked, &table),
         (plainly, &other),
-        "seed {seed} check"
+        "seed {seed} check with the key list {}",
+        hex(list)
     );
     let mut count = checked.count;
     if random.once_in(4) {
         // any words and any count may be handed in
-        table = differential::fractured_json::table(random);
+        table = make::table(random);
         count = random.pick(&[0, 1, 2, 3, 6, 4096, 4097, u64::MAX]);
     }
-    let (keys, table) = (sought(random, doc), &table[..]);
+    let (mut keys, table) = (sought(random, doc), &table[..]);
+    if !names.is_empty() {
+        keys[0] = names[random.below(names.len())].clone();
+    }
     for at in cursors(doc.len()) {
-        both!(seed, doc: end(table, count, at), kind(at), number(at), string(at));
-        for i in INDICES {
-            both!(seed, doc: element(table, count, at, i), member(table, count, at, i));
+        both!(seed, doc: end(list, table, count, at), kind(list, at), number(list, at), string(list, at));
+        both!(seed, doc: key(list, table, count, at));
+        // one of the further indices: every question reads the key list anew, which takes time
+        for i in [0, 1, random.pick(&INDICES[2..])] {
+            both!(seed, doc: element(list, table, count, at, i), member(list, table, count, at, i));
         }
         for key in &keys {
-            both!(seed, doc: first_member(table, count, at, key));
+            both!(seed, doc: first_member(list, table, count, at, key));
         }
     }
     number(checked.verdict)
@@ -165,7 +175,10 @@ fn fractured_json_agrees() {
     all_met(
         "Fractured JSON",
         &verdicts,
-        [0].into_iter().chain(31..=43).filter(|&n| n != 32),
+        [0].into_iter()
+            .chain(31..=43)
+            .chain(51..=54)
+            .filter(|&n| n != 32),
     );
 }
 
@@ -186,9 +199,52 @@ fn longest_documents_agree() {
         fractured.resize(len, 0x61);
         same!(
             &fractured[..6],
-            exports::fractured_json::check(&fractured, &mut []),
-            plain::fractured_json::check(&fractured, &mut []),
+            exports::fractured_json::check(&fractured, &[0, 0, 0], &mut []),
+            plain::fractured_json::check(&fractured, &[0, 0, 0], &mut []),
             "length {len}"
+        );
+    }
+}
+
+/// Key lists of as many names as a count says, and the last global indices.
+#[test]
+fn longest_lists_agree() {
+    use documents::fractured_json::{GLOBAL_INDEX, key_list};
+    use exports::fractured_json as proved;
+    use plain::fractured_json as plain;
+    let mut names: Vec<_> = (0..u16::MAX).map(|n| n.to_le_bytes().to_vec()).collect();
+    let list = &key_list(&names);
+    for index in 65_533..=65_535 {
+        let mut doc = b"FJ\x01\x6F".to_vec();
+        GLOBAL_INDEX.put_key_number(&mut doc, index, None);
+        doc.push(0x00);
+        let last = names[65_534].as_slice();
+        same!(
+            &doc,
+            (
+                proved::check(&doc, list, &mut []),
+                proved::first_member(&doc, list, &[], 0, 3, last),
+                proved::key(&doc, list, &[], 0, 4)
+            ),
+            (
+                plain::check(&doc, list, &mut []),
+                plain::first_member(&doc, list, &[], 0, 3, last),
+                plain::key(&doc, list, &[], 0, 4)
+            ),
+            "index {index}"
+        );
+    }
+    names[65_534] = names[0].clone();
+    for (list, what) in [
+        (&list[..], "65,535 names"),
+        (&list[..list.len() - 1], "65,535 names, cut"),
+        (&key_list(&names), "65,535 names, the last as the first"),
+    ] {
+        same!(
+            &list[..8],
+            proved::check_list(list),
+            plain::check_list(list),
+            "{what}"
         );
     }
 }

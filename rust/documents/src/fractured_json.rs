@@ -1,5 +1,5 @@
-//! A tree as Fractured JSON, in the shortest spelling, each key immediate where it first occurs; and all spellings of lengths
-//! and keys, for other writers.
+//! A tree as Fractured JSON, in the shortest spelling, with global keys or keys that are immediate where they first occur; key
+//! lists; and all spellings of lengths and keys, for other writers.
 
 use crate::Tree;
 use std::collections::HashMap;
@@ -74,11 +74,17 @@ pub fn least_v_uint16(n: usize) -> usize {
 
 struct Writer<'a> {
     doc: Vec<u8>,
+    /// The number of each name of the key list.
+    names: HashMap<&'a [u8], usize>,
+    /// The number of each immediate key so far.
     keys: HashMap<&'a [u8], usize>,
 }
 
 impl<'a> Writer<'a> {
     fn key(&mut self, text: &'a [u8]) {
+        if let Some(&n) = self.names.get(text) {
+            return GLOBAL_INDEX.put_key_number(&mut self.doc, n, None);
+        }
         if let Some(&n) = self.keys.get(text) {
             return BACK_REFERENCE.put_key_number(&mut self.doc, n, None);
         }
@@ -116,11 +122,28 @@ impl<'a> Writer<'a> {
     }
 }
 
-pub fn document(tree: &Tree) -> Vec<u8> {
+/// The document of a tree; keys that are among the names of the key list are global.
+pub fn document(tree: &Tree, names: &[Vec<u8>]) -> Vec<u8> {
     let mut writer = Writer {
         doc: b"FJ\x01".to_vec(),
+        names: names
+            .iter()
+            .enumerate()
+            .map(|(n, name)| (&name[..], n))
+            .collect(),
         keys: HashMap::new(),
     };
     writer.value(tree);
     writer.doc
+}
+
+/// The key list of these names.
+pub fn key_list(names: &[Vec<u8>]) -> Vec<u8> {
+    let mut list = vec![0];
+    list.extend((names.len() as u16).to_le_bytes());
+    for name in names {
+        list.extend((name.len() as u16).to_le_bytes());
+        list.extend(name);
+    }
+    list
 }

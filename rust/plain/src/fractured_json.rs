@@ -1,4 +1,5 @@
-//! The Fractured JSON reader: the check of a whole document and the questions asked of a value.
+//! The Fractured JSON reader: the checks of a key list and of a whole document, and the questions
+//! asked of a value or a key. Check and questions take the key list beside the document.
 
 use std::collections::HashSet;
 
@@ -6,6 +7,9 @@ use crate::{Answer, MAX_DEPTH, MAX_LENGTH, Refusal};
 
 /// Where the root value stands, after 46 4A and the config byte.
 const ROOT: usize = 3;
+
+/// Where the first name's length stands in a key list, after the config byte and the count.
+const FIRST_NAME: usize = 3;
 
 /// The most keys a key table is used for.
 const MAX_KEYS: usize = 4_096;
@@ -17,11 +21,45 @@ pub struct Checked {
     pub count: u64,
 }
 
-/// Checks the whole document by rules 31 to 43. Each immediate key passed has its pair, start and
-/// length, in the key table afterwards, refused or not; all other words stay.
-pub fn check(doc: &[u8], keys: &mut [u32]) -> Checked {
+/// Which of the lent bytes hold a key's text.
+#[derive(Debug, Clone, Copy, PartialEq, Eq)]
+pub enum Lender {
+    Document,
+    KeyList,
+}
+
+/// A key that has been read.
+#[derive(Debug, Clone, Copy, PartialEq, Eq)]
+pub struct Key<'d> {
+    pub lender: Lender,
+    /// Where the text starts in its lender.
+    pub place: usize,
+    pub text: &'d [u8],
+    /// Where the key ends, which is where its value starts.
+    pub end: usize,
+}
+
+/// Checks a key list by rules 51 to 54.
+pub fn check_list(list: &[u8]) -> Answer<()> {
+    read_list(list)?;
+    Ok(())
+}
+
+/// Checks the key list and then the whole document by rules 31 to 43. Each immediate key passed has
+/// its pair, start and length, in the key table afterwards, refused or not; all other words stay.
+pub fn check(doc: &[u8], list: &[u8], keys: &mut [u32]) -> Checked {
+    let names = match read_list(list) {
+        Ok(names) => names,
+        Err(refusal) => {
+            return Checked {
+                verdict: Err(refusal),
+                count: 0,
+            };
+        }
+    };
     let mut walker = Walker {
         doc,
+        names,
         keys: KeyRecorder {
             doc,
             table: keys,
@@ -44,17 +82,17 @@ pub fn check(doc: &[u8], keys: &mut [u32]) -> Checked {
 }
 
 /// Where the value at `at` ends.
-pub fn end(doc: &[u8], keys: &[u32], count: u64, at: u64) -> Answer<u64> {
-    let (at, _) = open(doc, at)?;
-    let end = Walker::asking(doc, keys, count).value(at, 1)?;
+pub fn end(doc: &[u8], list: &[u8], keys: &[u32], count: u64, at: u64) -> Answer<u64> {
+    let (names, at) = open(doc, list, at)?;
+    let end = Walker::asking(doc, names, keys, count).value(at, 1)?;
     Ok(end as u64)
 }
 
 /// Kind of the value at `at` (0 null, 1 false, 2 true, 3 number, 4 string, 5 object, 6 array), with
 /// the length of a string or container.
-pub fn kind(doc: &[u8], at: u64) -> Answer<(u64, Option<u64>)> {
-    let (at, value_type) = open(doc, at)?;
-    let (kind, length) = match value_type {
+pub fn kind(doc: &[u8], list: &[u8], at: u64) -> Answer<(u64, Option<u64>)> {
+    let (_, at) = open(doc, list, at)?;
+    let (kind, length) = match read_type(doc, at)? {
         Type::Null => return Ok((0, None)),
         Type::False => return Ok((1, None)),
         Type::True => return Ok((2, None)),
@@ -68,9 +106,9 @@ pub fn kind(doc: &[u8], at: u64) -> Answer<(u64, Option<u64>)> {
 }
 
 /// The number at `at`: its type byte and 64 bits.
-pub fn number(doc: &[u8], at: u64) -> Answer<(u8, u64)> {
-    let (at, value_type) = open(doc, at)?;
-    let Type::Number(byte) = value_type else {
+pub fn number(doc: &[u8], list: &[u8], at: u64) -> Answer<(u8, u64)> {
+    let (_, at) = open(doc, list, at)?;
+    let Type::Number(byte) = read_type(doc, at)? else {
         return Err(Refusal::new(21, at));
     };
     let (bits, _) = read_number(doc, at, byte)?;
@@ -78,9 +116,9 @@ pub fn number(doc: &[u8], at: u64) -> Answer<(u8, u64)> {
 }
 
 /// Place and length of the text of the string at `at`.
-pub fn string(doc: &[u8], at: u64) -> Answer<(u64, u64)> {
-    let (at, value_type) = open(doc, at)?;
-    let Type::String(length) = value_type else {
+pub fn string(doc: &[u8], list: &[u8], at: u64) -> Answer<(u64, u64)> {
+    let (_, at) = open(doc, list, at)?;
+    let Type::String(length) = read_type(doc, at)? else {
         return Err(Refusal::new(21, at));
     };
     let (length, start) = read_length(doc, at, length)?;
@@ -89,16 +127,16 @@ pub fn string(doc: &[u8], at: u64) -> Answer<(u64, u64)> {
 }
 
 /// Place of element `i` of the array at `at`.
-pub fn element(doc: &[u8], keys: &[u32], count: u64, at: u64, i: u64) -> Answer<u64> {
-    let (at, value_type) = open(doc, at)?;
-    let Type::Array(length) = value_type else {
+pub fn element(doc: &[u8], list: &[u8], keys: &[u32], count: u64, at: u64, i: u64) -> Answer<u64> {
+    let (names, at) = open(doc, list, at)?;
+    let Type::Array(length) = read_type(doc, at)? else {
         return Err(Refusal::new(21, at));
     };
     let (length, mut next) = read_length(doc, at, length)?;
     if i >= u64::from(length) {
         return Err(Refusal::new(22, at));
     }
-    let mut walker = Walker::asking(doc, keys, count);
+    let mut walker = Walker::asking(doc, names, keys, count);
     for _ in 0..i {
         next = walker.value(next, 2)?;
     }
@@ -106,12 +144,20 @@ pub fn element(doc: &[u8], keys: &[u32], count: u64, at: u64, i: u64) -> Answer<
 }
 
 /// Places of the key byte and of the value of member `j` of the object at `at`.
-pub fn member(doc: &[u8], keys: &[u32], count: u64, at: u64, j: u64) -> Answer<(u64, u64)> {
-    let (at, length, mut next) = open_object(doc, at)?;
+pub fn member(
+    doc: &[u8],
+    list: &[u8],
+    keys: &[u32],
+    count: u64,
+    at: u64,
+    j: u64,
+) -> Answer<(u64, u64)> {
+    let (names, at) = open(doc, list, at)?;
+    let (length, mut next) = read_object(doc, at)?;
     if j >= u64::from(length) {
         return Err(Refusal::new(22, at));
     }
-    let mut walker = Walker::asking(doc, keys, count);
+    let mut walker = Walker::asking(doc, names, keys, count);
     for _ in 0..j {
         let key = walker.key(next)?;
         next = walker.value(key.end, 2)?;
@@ -124,13 +170,15 @@ pub fn member(doc: &[u8], keys: &[u32], count: u64, at: u64, j: u64) -> Answer<(
 /// between two keys are walked; nothing is read after the last key.
 pub fn first_member(
     doc: &[u8],
+    list: &[u8],
     keys: &[u32],
     count: u64,
     at: u64,
     key: &[u8],
 ) -> Answer<Option<u64>> {
-    let (_, length, mut next) = open_object(doc, at)?;
-    let mut walker = Walker::asking(doc, keys, count);
+    let (names, at) = open(doc, list, at)?;
+    let (length, mut next) = read_object(doc, at)?;
+    let mut walker = Walker::asking(doc, names, keys, count);
     for j in 0..length {
         let met = walker.key(next)?;
         if met.text == key {
@@ -141,6 +189,64 @@ pub fn first_member(
         }
     }
     Ok(None)
+}
+
+/// The key whose key byte stands at `at`.
+pub fn key<'d>(
+    doc: &'d [u8],
+    list: &'d [u8],
+    keys: &[u32],
+    count: u64,
+    at: u64,
+) -> Answer<Key<'d>> {
+    let (names, at) = open(doc, list, at)?;
+    Walker::asking(doc, names, keys, count).key(at)
+}
+
+/// A text and where it starts in the bytes that hold it.
+struct Text<'d> {
+    place: usize,
+    bytes: &'d [u8],
+}
+
+/// The names of a key list. Order: 52 and 51 for the config byte, 52 for the count, then for each name
+/// 52 for its length and its text and 54, and 53 last.
+fn read_list(list: &[u8]) -> Answer<Vec<Text<'_>>> {
+    let config = *list.first().ok_or(Refusal::new(52, 0))?;
+    if config != 0 {
+        return Err(Refusal::new(51, 0));
+    }
+    let count = read_u16(list, 1).ok_or(Refusal::new(52, 1))?;
+    // Each name takes two bytes or more, so that a count alone reserves little.
+    let capacity = count.min(list.len() / 2);
+    let mut names: Vec<Text> = Vec::with_capacity(capacity);
+    // Few names are compared with each other, more go through a set.
+    let mut met = (count > 16).then(|| HashSet::with_capacity(capacity));
+    let mut next = FIRST_NAME;
+    for _ in 0..count {
+        let length = read_u16(list, next).ok_or(Refusal::new(52, next))?;
+        let place = next + 2;
+        let bytes = text_at(list, place, length).ok_or(Refusal::new(52, place))?;
+        let repeated = match &mut met {
+            Some(met) => !met.insert(bytes),
+            None => names.iter().any(|name| name.bytes == bytes),
+        };
+        if repeated {
+            return Err(Refusal::new(54, next));
+        }
+        names.push(Text { place, bytes });
+        next = place + length;
+    }
+    if next < list.len() {
+        return Err(Refusal::new(53, next));
+    }
+    Ok(names)
+}
+
+/// The 16-bit number at a place of a key list, if it is inside.
+fn read_u16(list: &[u8], at: usize) -> Option<usize> {
+    let bytes = list.get(at..)?.first_chunk()?;
+    Some(usize::from(u16::from_le_bytes(*bytes)))
 }
 
 /// Rules 31 to 34.
@@ -161,8 +267,10 @@ fn check_header(doc: &[u8]) -> Answer<()> {
     Ok(())
 }
 
-/// What every question starts with: 31 to 34, 20 for a cursor in the header, then the type byte.
-fn open(doc: &[u8], cursor: u64) -> Answer<(usize, Type)> {
+/// What every question starts with: the key list's rules, 31 to 34, then 20 for a cursor in the
+/// header. Answers the names of the key list and the cursor as a place.
+fn open<'d>(doc: &[u8], list: &'d [u8], cursor: u64) -> Answer<(Vec<Text<'d>>, usize)> {
+    let names = read_list(list)?;
     check_header(doc)?;
     if cursor < ROOT as u64 {
         return Err(Refusal {
@@ -174,18 +282,15 @@ fn open(doc: &[u8], cursor: u64) -> Answer<(usize, Type)> {
         number: 35,
         place: cursor,
     })?;
-    Ok((at, read_type(doc, at)?))
+    Ok((names, at))
 }
 
-/// What a question about an object starts with, 21 unless it is one: its place, how many members it
-/// has, and where the first one's key stands.
-fn open_object(doc: &[u8], cursor: u64) -> Answer<(usize, u32, usize)> {
-    let (at, value_type) = open(doc, cursor)?;
-    let Type::Object(length) = value_type else {
+/// How many members the object at `at` has and where the first one's key stands, 21 unless it is one.
+fn read_object(doc: &[u8], at: usize) -> Answer<(u32, usize)> {
+    let Type::Object(length) = read_type(doc, at)? else {
         return Err(Refusal::new(21, at));
     };
-    let (length, first) = read_length(doc, at, length)?;
-    Ok((at, length, first))
+    read_length(doc, at, length)
 }
 
 /// What a type byte says.
@@ -284,9 +389,9 @@ fn read_number(doc: &[u8], at: usize, byte: u8) -> Answer<(u64, usize)> {
     })
 }
 
-/// The part of the document with this start and length, if it is inside.
-fn text_at(doc: &[u8], start: usize, length: usize) -> Option<&[u8]> {
-    doc.get(start..)?.get(..length)
+/// The part of a document or key list with this start and length, if it is inside.
+fn text_at(bytes: &[u8], start: usize, length: usize) -> Option<&[u8]> {
+    bytes.get(start..)?.get(..length)
 }
 
 /// The number after a key byte at `key`, and where it ends: 35 at the key byte, 37 at a third byte
@@ -322,7 +427,7 @@ trait Keys<'d> {
     fn immediate(&mut self, start: usize, text: &'d [u8]) -> Result<(), u32>;
 
     /// The text of the key with this index, if there is one.
-    fn back_reference(&self, index: usize) -> Option<&'d [u8]>;
+    fn back_reference(&self, index: usize) -> Option<Text<'d>>;
 }
 
 /// The keys of the check.
@@ -350,7 +455,7 @@ impl<'d> Keys<'d> for KeyRecorder<'d, '_> {
         Ok(())
     }
 
-    fn back_reference(&self, index: usize) -> Option<&'d [u8]> {
+    fn back_reference(&self, index: usize) -> Option<Text<'d>> {
         if index >= self.count {
             return None;
         }
@@ -371,7 +476,7 @@ impl<'d> Keys<'d> for KeyTable<'d, '_> {
         Ok(())
     }
 
-    fn back_reference(&self, index: usize) -> Option<&'d [u8]> {
+    fn back_reference(&self, index: usize) -> Option<Text<'d>> {
         if index as u64 >= self.count || self.count > room(self.table) as u64 {
             return None;
         }
@@ -380,29 +485,27 @@ impl<'d> Keys<'d> for KeyTable<'d, '_> {
 }
 
 /// The text that a pair of the key table names, if it is inside the document.
-fn pair<'d>(doc: &'d [u8], table: &[u32], index: usize) -> Option<&'d [u8]> {
-    let start = *table.get(2 * index)?;
+fn pair<'d>(doc: &'d [u8], table: &[u32], index: usize) -> Option<Text<'d>> {
+    let place = *table.get(2 * index)? as usize;
     let length = *table.get(2 * index + 1)?;
-    text_at(doc, start as usize, length as usize)
-}
-
-/// A key that has been read: its text, and where its value starts.
-struct Key<'d> {
-    text: &'d [u8],
-    end: usize,
+    let bytes = text_at(doc, place, length as usize)?;
+    Some(Text { place, bytes })
 }
 
 /// Walks values and keys in reading order.
 struct Walker<'d, K> {
     doc: &'d [u8],
+    /// The names of the key list.
+    names: Vec<Text<'d>>,
     keys: K,
 }
 
 impl<'d, 't> Walker<'d, KeyTable<'d, 't>> {
     /// A walker for a question.
-    fn asking(doc: &'d [u8], table: &'t [u32], count: u64) -> Self {
+    fn asking(doc: &'d [u8], names: Vec<Text<'d>>, table: &'t [u32], count: u64) -> Self {
         Walker {
             doc,
+            names,
             keys: KeyTable { doc, table, count },
         }
     }
@@ -461,12 +564,12 @@ impl<'d, K: Keys<'d>> Walker<'d, K> {
                 self.back_reference(at, index, end)
             }
             0x02 => {
-                read_v_uint16(self.doc, at)?;
-                Err(Refusal::new(38, at)) // no global index is found yet
+                let (index, end) = read_v_uint16(self.doc, at)?;
+                self.global_index(at, index, end)
             }
             0x03..=0x56 => self.immediate(at, at + 1, usize::from(byte - 0x03)),
             0x57..=0xAA => self.back_reference(at, usize::from(byte - 0x57), at + 1),
-            0xAB..=0xFE => Err(Refusal::new(38, at)),
+            0xAB..=0xFE => self.global_index(at, usize::from(byte - 0xAB), at + 1),
             0xFF => Err(Refusal::new(36, at)),
         }
     }
@@ -477,6 +580,8 @@ impl<'d, K: Keys<'d>> Walker<'d, K> {
             .immediate(start, text)
             .map_err(|number| Refusal::new(number, at))?;
         Ok(Key {
+            lender: Lender::Document,
+            place: start,
             text,
             end: start + length,
         })
@@ -487,6 +592,21 @@ impl<'d, K: Keys<'d>> Walker<'d, K> {
             .keys
             .back_reference(index)
             .ok_or(Refusal::new(38, at))?;
-        Ok(Key { text, end })
+        Ok(Key {
+            lender: Lender::Document,
+            place: text.place,
+            text: text.bytes,
+            end,
+        })
+    }
+
+    fn global_index(&self, at: usize, index: usize, end: usize) -> Answer<Key<'d>> {
+        let name = self.names.get(index).ok_or(Refusal::new(38, at))?;
+        Ok(Key {
+            lender: Lender::KeyList,
+            place: name.place,
+            text: name.bytes,
+            end,
+        })
     }
 }

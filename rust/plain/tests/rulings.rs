@@ -1,4 +1,5 @@
-//! The tests: all rows of the rulings, the papers' specimens and run list, and laws of all answers.
+//! The tests: all rows of the rulings, the papers' specimens and run list, key lists, and laws of all
+//! answers.
 
 use std::fmt::Write;
 
@@ -6,6 +7,9 @@ use plain::{Answer, Refusal, binary_json, fractured_json};
 
 /// What a lent word holds before the check, so that a word written by mistake is seen.
 const UNTOUCHED: u32 = 0xDEAD_BEEF;
+
+/// A key list without names.
+const NO_NAMES: &[u8] = &[0, 0, 0];
 
 fn from_hex(hex: &str) -> Vec<u8> {
     if hex == "-" {
@@ -85,9 +89,9 @@ fn binary_json_answer(doc: &[u8], question: &str, args: &[&str]) -> String {
 }
 
 /// The FJ check put as the rulings put it; all words after the pairs must stay.
-fn fractured_json_check(doc: &[u8], table: &mut [u32]) -> String {
+fn fractured_json_check(doc: &[u8], list: &[u8], table: &mut [u32]) -> String {
     let before = table.to_vec();
-    let checked = fractured_json::check(doc, table);
+    let checked = fractured_json::check(doc, list, table);
     let pairs = 2 * checked.count as usize;
     assert_eq!(table[pairs..], before[pairs..], "a word was written");
     let mut answer = put(checked.verdict, |()| "ok".to_string());
@@ -100,6 +104,7 @@ fn fractured_json_check(doc: &[u8], table: &mut [u32]) -> String {
 
 fn fractured_json_answer(
     doc: &[u8],
+    list: &[u8],
     table: &mut [u32],
     count: u64,
     question: &str,
@@ -109,9 +114,9 @@ fn fractured_json_answer(
     let number_arg = |i: usize| args[i].parse::<u64>().unwrap();
     let text_arg = |i: usize| from_hex(args[i]);
     match question {
-        "check" => fractured_json_check(doc, table),
-        "end" => put_one(end(doc, table, count, number_arg(0))),
-        "kind" => put(kind(doc, number_arg(0)), |(kind, length)| {
+        "check" => fractured_json_check(doc, list, table),
+        "end" => put_one(end(doc, list, table, count, number_arg(0))),
+        "kind" => put(kind(doc, list, number_arg(0)), |(kind, length)| {
             let name = [
                 "null", "false", "true", "number", "string", "object", "array",
             ][kind as usize];
@@ -120,15 +125,38 @@ fn fractured_json_answer(
                 None => format!("ok {name}"),
             }
         }),
-        "number" => put(number(doc, number_arg(0)), |(byte, bits)| {
+        "number" => put(number(doc, list, number_arg(0)), |(byte, bits)| {
             format!("ok {byte} {bits}")
         }),
-        "string" => put_two(string(doc, number_arg(0))),
-        "string_text" => put_text(doc, string(doc, number_arg(0))),
-        "element" => put_one(element(doc, table, count, number_arg(0), number_arg(1))),
-        "member" => put_two(member(doc, table, count, number_arg(0), number_arg(1))),
+        "string" => put_two(string(doc, list, number_arg(0))),
+        "string_text" => put_text(doc, string(doc, list, number_arg(0))),
+        "key" => put(key(doc, list, table, count, number_arg(0)), |key| {
+            let (lender, name) = match key.lender {
+                Lender::Document => (doc, "document"),
+                Lender::KeyList => (list, "list"),
+            };
+            let (place, length) = (key.place, key.text.len());
+            assert_eq!(lender[place..place + length], *key.text);
+            format!("ok {name} {place} {length} {}", key.end)
+        }),
+        "element" => put_one(element(
+            doc,
+            list,
+            table,
+            count,
+            number_arg(0),
+            number_arg(1),
+        )),
+        "member" => put_two(member(
+            doc,
+            list,
+            table,
+            count,
+            number_arg(0),
+            number_arg(1),
+        )),
         "first_member" => put(
-            first_member(doc, table, count, number_arg(0), &text_arg(1)),
+            first_member(doc, list, table, count, number_arg(0), &text_arg(1)),
             |found| match found {
                 Some(value) => format!("ok {value}"),
                 None => "absent".to_string(),
@@ -138,20 +166,26 @@ fn fractured_json_answer(
     }
 }
 
-/// The answer to the part of a row before its equals sign.
+/// The answer to the part of a row before its equals sign. Beside the rulings' fields an FJ row may
+/// have `list`, the key list, and a row `L HEX` is the check of a key list.
 fn answer_of_row(row: &str) -> String {
     let mut fields = row.split_whitespace().peekable();
     let format = fields.next().unwrap();
     let doc = from_hex(fields.next().unwrap());
+    let mut list = NO_NAMES.to_vec();
     let (mut words, mut table, mut count) = (None, None, 0);
     while let Some((name, value)) = fields.peek().and_then(|field| field.split_once('=')) {
         match name {
+            "list" => list = from_hex(value),
             "words" => words = Some(value.parse::<usize>().unwrap()),
             "table" => table = Some(value.split(',').map(|w| w.parse().unwrap()).collect()),
             "count" => count = value.parse().unwrap(),
             _ => panic!("unknown field {name}"),
         }
         fields.next();
+    }
+    if format == "L" {
+        return put(fractured_json::check_list(&doc), |()| "ok".to_string());
     }
     let question = fields.next().unwrap();
     let args: Vec<&str> = fields.collect();
@@ -167,7 +201,7 @@ fn answer_of_row(row: &str) -> String {
     if let Some(words) = words {
         table.resize(words, UNTOUCHED);
     }
-    fractured_json_answer(&doc, &mut table, count, question, &args)
+    fractured_json_answer(&doc, &list, &mut table, count, question, &args)
 }
 
 #[test]
@@ -359,6 +393,263 @@ fn rows_by_hand() {
     }
 }
 
+/// A key list of the names "a" and "bc".
+const A_BC: &str = "00020001006102006263";
+
+#[test]
+fn key_lists() {
+    let rows = [
+        ("L 000000", "ok"),
+        (&format!("L {A_BC}"), "ok"),
+        // An empty name; a name that is a prefix of the next; a zero inside.
+        ("L 0001000000", "ok"),
+        ("L 00020001006102006161", "ok"),
+        ("L 00020001006102006100", "ok"),
+        // 51 before anything after the config byte.
+        ("L 01", "no 51 0"),
+        ("L 010000", "no 51 0"),
+        ("L FF0100010061FF", "no 51 0"),
+        // 52 at the config byte, the count, a length and a text.
+        ("L -", "no 52 0"),
+        ("L 00", "no 52 1"),
+        ("L 0000", "no 52 1"),
+        ("L 0001", "no 52 1"),
+        ("L 000100", "no 52 3"),
+        ("L 00010001", "no 52 3"),
+        ("L 0001000100", "no 52 5"),
+        ("L 000100020061", "no 52 5"),
+        ("L 000200010061", "no 52 6"),
+        ("L 00020001006102", "no 52 6"),
+        ("L 0002000100610200", "no 52 8"),
+        ("L 000200010061020062", "no 52 8"),
+        ("L 000100FFFF61", "no 52 5"),
+        // 53 after the last name.
+        ("L 00000000", "no 53 3"),
+        ("L 000100010061FF00", "no 53 6"),
+        (&format!("L {A_BC}010061"), "no 53 10"),
+        // 54 at the second's length, before the next name and before 53, after its own 52.
+        ("L 000200010061010061", "no 54 6"),
+        ("L 00020000000000", "no 54 5"),
+        ("L 000300010061010062010061", "no 54 9"),
+        ("L 000300010061010061", "no 54 6"),
+        ("L 000200010061010061FF", "no 54 6"),
+        ("L 0002000100610100", "no 52 8"),
+    ];
+    for (asked, expected) in rows {
+        assert_eq!(answer_of_row(asked), expected, "{asked}");
+    }
+}
+
+/// A bad key list refuses every call, with whatever document, and the check writes no pair.
+#[test]
+fn bad_key_lists() {
+    let calls = [
+        "end 3",
+        "kind 3",
+        "number 3",
+        "string 3",
+        "key 4",
+        "element 3 0",
+        "member 3 0",
+        "first_member 3 61",
+    ];
+    let lists = [
+        ("01", "no 51 0"),
+        ("-", "no 52 0"),
+        ("000100010061FF", "no 53 6"),
+        ("000200010061010061", "no 54 6"),
+    ];
+    for (list, refusal) in lists {
+        for doc in ["-", "464A01", "474A0200", "464A016F046102"] {
+            assert_eq!(
+                answer_of_row(&format!("F {doc} list={list} check")),
+                format!("{refusal} 0")
+            );
+            for call in calls {
+                let asked = format!("F {doc} list={list} {call}");
+                assert_eq!(answer_of_row(&asked), refusal, "{asked}");
+            }
+        }
+    }
+}
+
+/// A row of an FJ document, its bytes after the header, with the names "a" and "bc".
+fn with_names(value: &str, asked: &str) -> String {
+    answer_of_row(&format!("F 464A01{value} list={A_BC} {asked}"))
+}
+
+#[test]
+fn global_indices() {
+    // Under, at and past the count of 2, tiny and with a v_uint16 of one, two and three bytes.
+    let spellings = [
+        ["AC", "AD", "FE"],
+        ["0201", "0202", "027F"],
+        ["028100", "028200", "02FF7F"],
+        ["02818000", "02828000", "02FFFF03"],
+    ];
+    for [under, at, past] in spellings {
+        let end = 4 + under.len() / 2;
+        assert_eq!(with_names(&format!("6F{under}02"), "check"), "ok 0");
+        assert_eq!(
+            with_names(&format!("6F{under}02"), "end 3"),
+            format!("ok {}", end + 1)
+        );
+        assert_eq!(
+            with_names(&format!("6F{under}02"), "key 4"),
+            format!("ok list 8 2 {end}")
+        );
+        for index in [at, past] {
+            let doc = format!("6F{index}02");
+            assert_eq!(with_names(&doc, "check"), "no 38 4 0");
+            for asked in ["end 3", "member 3 0", "first_member 3 61", "key 4"] {
+                assert_eq!(with_names(&doc, asked), "no 38 4", "{doc} {asked}");
+            }
+        }
+    }
+    assert_eq!(with_names("6F02", "check"), "no 35 4 0");
+    assert_eq!(with_names("6F028180", "check"), "no 35 4 0");
+    assert_eq!(with_names("6F02818004", "check"), "no 37 7 0");
+}
+
+#[test]
+fn global_keys() {
+    let rows = [
+        // An immediate text may equal a name, and a global key may occur twice.
+        ("70AB00046102", "check", "ok 1 7 1"),
+        ("70046100AB02", "check", "ok 1 5 1"),
+        ("70AB00AB02", "check", "ok 0"),
+        ("71046100AB02046100", "check", "no 39 9 1 5 1"),
+        // A global key has no number of its own.
+        ("70AB005702", "check", "no 38 6 0"),
+        ("71AB000461005702", "check", "ok 1 7 1"),
+        ("6FAB", "check", "no 35 5 0"),
+        // The first member with the name, whatever kind of key it has.
+        ("70AB00046102", "first_member 3 61", "ok 5"),
+        ("70046100AB02", "first_member 3 61", "ok 6"),
+        ("70AC00AB02", "first_member 3 61", "ok 7"),
+        ("70AC00AB02", "first_member 3 6263", "ok 5"),
+        ("70AC00AB02", "first_member 3 62", "absent"),
+        ("70AD00AB02", "first_member 3 61", "no 38 4"),
+        ("70AB00AD02", "first_member 3 61", "ok 5"),
+        ("70AB00AD02", "first_member 3 6263", "no 38 6"),
+        ("70AB00AC02", "member 3 1", "ok 6 7"),
+        ("A06FAB0001", "element 3 1", "ok 7"),
+        ("70AB00AC02", "end 3", "ok 8"),
+    ];
+    for (value, asked, expected) in rows {
+        assert_eq!(with_names(value, asked), expected, "{value} {asked}");
+    }
+}
+
+#[test]
+fn keys_asked_for() {
+    let rows = [
+        // Immediate keys, tiny and with a v_uint16; the value is not read.
+        ("464A016F046102 key 4", "ok document 5 1 6"),
+        ("464A016F0461 key 4", "ok document 5 1 6"),
+        ("464A016F00016102 key 4", "ok document 6 1 7"),
+        ("464A016F008180006102 key 4", "ok document 8 1 9"),
+        ("464A016F0300 key 4", "ok document 5 0 5"),
+        // Back references go by the key table and count handed in.
+        (
+            "464A01700461005701 table=5,1 count=1 key 7",
+            "ok document 5 1 8",
+        ),
+        (
+            "464A017004610001808000 table=5,1 count=1 key 7",
+            "ok document 5 1 11",
+        ),
+        ("464A016F5700 table=0,2 count=1 key 4", "ok document 0 2 5"),
+        ("464A016F5700 table=6,0 count=1 key 4", "ok document 6 0 5"),
+        ("464A01700461005701 key 7", "no 38 7"),
+        ("464A016F5700 table=7,0 count=1 key 4", "no 38 4"),
+        ("464A016F5700 table=4294967295,2 count=1 key 4", "no 38 4"),
+        ("464A016F5700 table=4,1,9 count=2 key 4", "no 38 4"),
+        ("464A016F5800 table=4,1 count=1 key 4", "no 38 4"),
+        // Without names no global index is found.
+        ("464A016FAB00 key 4", "no 38 4"),
+        ("464A016F02808000 key 4", "no 38 4"),
+        // 39 and 40 belong to the check alone.
+        ("464A0170046100046101 key 7", "ok document 8 1 9"),
+        // 31 to 34, 20, then the key's own order.
+        ("464A01 key 4", "no 31 3"),
+        ("474A0200 key 4", "no 33 0"),
+        ("464A0200 key 2", "no 34 2"),
+        ("464A016F046102 key 2", "no 20 2"),
+        ("464A016F046102 key 7", "no 35 7"),
+        (
+            "464A016F046102 key 18446744073709551615",
+            "no 35 18446744073709551615",
+        ),
+        ("464A016FFF key 4", "no 36 4"),
+        ("464A016F00 key 4", "no 35 4"),
+        ("464A016F0080 key 4", "no 35 4"),
+        ("464A016F018080 key 4", "no 35 4"),
+        ("464A016F00808004 key 4", "no 37 7"),
+        ("464A016F01808004 key 4", "no 37 7"),
+        ("464A016F02808004 key 4", "no 37 7"),
+        ("464A016F0561 key 4", "no 35 4"),
+        ("464A016F000261 key 4", "no 35 4"),
+        // Any byte is read as a key byte: 6F is back reference 24.
+        ("464A016F046102 key 3", "no 38 3"),
+    ];
+    for (asked, expected) in rows {
+        assert_eq!(answer_of_row(&format!("F {asked}")), expected, "{asked}");
+    }
+}
+
+/// A key list of these names.
+fn key_list(names: &[Vec<u8>]) -> Vec<u8> {
+    let mut list = vec![0];
+    list.extend((names.len() as u16).to_le_bytes());
+    for name in names {
+        list.extend((name.len() as u16).to_le_bytes());
+        list.extend(name);
+    }
+    list
+}
+
+/// 65,535 names, and a name of 65,535 bytes.
+#[test]
+fn largest_key_lists() {
+    let mut names: Vec<Vec<u8>> = (0..65_535_u16).map(|k| k.to_le_bytes().to_vec()).collect();
+    let list = key_list(&names);
+    assert_eq!(fractured_json::check_list(&list), Ok(()));
+    let ask = |third| {
+        let doc = fj_document(&[&[0x70, 0x02, 0xFE, 0xFF, 3, 0, 0x02, third, 0xFF, 3, 0]]);
+        let checked = fractured_json::check(&doc, &list, &mut []);
+        assert_eq!(checked.count, 0);
+        checked.verdict
+    };
+    assert_eq!(ask(0xFE), Ok(()));
+    assert_eq!(ask(0xFF), refuse(38, 9));
+    // The last name equals the first.
+    names[65_534] = names[0].clone();
+    let list = key_list(&names);
+    let last = list.len() as u64 - 4;
+    assert_eq!(fractured_json::check_list(&list), refuse(54, last));
+    assert_eq!(
+        fractured_json::check_list(&list[..last as usize]),
+        refuse(52, last)
+    );
+
+    let mut long = vec![b'k'; 65_535];
+    let list = key_list(&[long.clone(), vec![b'k']]);
+    let doc = fj_document(&[&[0x70, 0xAB, 0, 0xAC, 0]]);
+    assert_eq!(fractured_json::check_list(&list), Ok(()));
+    let found = fractured_json::first_member(&doc, &list, &[], 0, 3, &long);
+    assert_eq!(found, Ok(Some(5)));
+    let key = fractured_json::key(&doc, &list, &[], 0, 6).unwrap();
+    assert_eq!((key.place, key.text, key.end), (65_542, &b"k"[..], 7));
+    assert_eq!(
+        fractured_json::check_list(&list[..5 + 65_534]),
+        refuse(52, 5)
+    );
+    long.pop();
+    let found = fractured_json::first_member(&doc, &list, &[], 0, 3, &long);
+    assert_eq!(found, Ok(None));
+}
+
 fn word(low: u32, high: u32) -> [u8; 4] {
     (high << 5 | low).to_le_bytes()
 }
@@ -387,9 +678,9 @@ fn refuse<T>(number: u32, place: u64) -> Answer<T> {
 }
 
 /// The check with a table of this many words, and what the table holds afterwards.
-fn fj_check(doc: &[u8], words: usize) -> (fractured_json::Checked, Vec<u32>) {
+fn fj_check(doc: &[u8], list: &[u8], words: usize) -> (fractured_json::Checked, Vec<u32>) {
     let mut table = vec![UNTOUCHED; words];
-    let checked = fractured_json::check(doc, &mut table);
+    let checked = fractured_json::check(doc, list, &mut table);
     let pairs = 2 * checked.count as usize;
     assert!(table[pairs..].iter().all(|&word| word == UNTOUCHED));
     (checked, table)
@@ -423,9 +714,9 @@ fn longest_documents() {
         let text = vec![b'x'; length - 8];
         let doc = fj_document(&[&[0x0F], &(text.len() as u32).to_le_bytes(), &text]);
         assert_eq!(doc.len(), length);
-        let (checked, _) = fj_check(&doc, 0);
+        let (checked, _) = fj_check(&doc, NO_NAMES, 0);
         assert_eq!(checked.verdict, verdict);
-        assert_eq!(fractured_json::kind(&doc, 3).map(|_| ()), verdict);
+        assert_eq!(fractured_json::kind(&doc, NO_NAMES, 3).map(|_| ()), verdict);
     }
 }
 
@@ -445,9 +736,9 @@ fn deepest_documents() {
     }
     for (depth, verdict) in [(32, Ok(())), (33, refuse(41, 3 + 32))] {
         let doc = fj_document(&[&vec![0x9F; depth - 1], &[0x9E]]);
-        assert_eq!(fj_check(&doc, 0).0.verdict, verdict);
+        assert_eq!(fj_check(&doc, NO_NAMES, 0).0.verdict, verdict);
         let doc = fj_document(&[&vec![0x9F; depth - 1], &[0x6E]]);
-        assert_eq!(fj_check(&doc, 0).0.verdict, verdict);
+        assert_eq!(fj_check(&doc, NO_NAMES, 0).0.verdict, verdict);
     }
 }
 
@@ -459,29 +750,35 @@ fn nesting_before_the_member_sought() {
         fj_document(&[&[0x70, 0x04, b'a'], &value, &[0x04, b'b', 0x00]])
     };
     let doc = object(31);
-    assert_eq!(fractured_json::member(&doc, &[], 0, 3, 1), Ok((37, 39)));
-    let found = fractured_json::first_member(&doc, &[], 0, 3, b"b");
+    assert_eq!(
+        fractured_json::member(&doc, NO_NAMES, &[], 0, 3, 1),
+        Ok((37, 39))
+    );
+    let found = fractured_json::first_member(&doc, NO_NAMES, &[], 0, 3, b"b");
     assert_eq!(found, Ok(Some(39)));
     let doc = object(32);
-    assert_eq!(fractured_json::member(&doc, &[], 0, 3, 1), refuse(41, 37));
-    let found = fractured_json::first_member(&doc, &[], 0, 3, b"b");
+    assert_eq!(
+        fractured_json::member(&doc, NO_NAMES, &[], 0, 3, 1),
+        refuse(41, 37)
+    );
+    let found = fractured_json::first_member(&doc, NO_NAMES, &[], 0, 3, b"b");
     assert_eq!(found, refuse(41, 37));
-    assert_eq!(fractured_json::end(&doc, &[], 0, 6), Ok(38));
+    assert_eq!(fractured_json::end(&doc, NO_NAMES, &[], 0, 6), Ok(38));
 }
 
 #[test]
 fn strings_of_87_and_88_bytes() {
     let text = [b's'; 88];
     let doc = fj_document(&[&[0x6D], &text[..87]]);
-    assert_eq!(fj_check(&doc, 0).0.verdict, Ok(()));
-    assert_eq!(fractured_json::string(&doc, 3), Ok((4, 87)));
-    assert_eq!(fj_check(&doc[..90], 0).0.verdict, refuse(35, 3));
+    assert_eq!(fj_check(&doc, NO_NAMES, 0).0.verdict, Ok(()));
+    assert_eq!(fractured_json::string(&doc, NO_NAMES, 3), Ok((4, 87)));
+    assert_eq!(fj_check(&doc[..90], NO_NAMES, 0).0.verdict, refuse(35, 3));
     let doc = fj_document(&[&[0x0D, 88], &text]);
-    assert_eq!(fj_check(&doc, 0).0.verdict, Ok(()));
-    assert_eq!(fractured_json::string(&doc, 3), Ok((5, 88)));
+    assert_eq!(fj_check(&doc, NO_NAMES, 0).0.verdict, Ok(()));
+    assert_eq!(fractured_json::string(&doc, NO_NAMES, 3), Ok((5, 88)));
     // 6E is an empty object, so the texts after it are too many.
     let doc = fj_document(&[&[0x6E], &text]);
-    assert_eq!(fj_check(&doc, 0).0.verdict, refuse(42, 4));
+    assert_eq!(fj_check(&doc, NO_NAMES, 0).0.verdict, refuse(42, 4));
     for length in [87_u64, 88] {
         let content = &text[..length as usize];
         let doc = binary_json_document(&[word(0, 1), word(3, 16)], &[content], &[]);
@@ -494,40 +791,49 @@ fn strings_of_87_and_88_bytes() {
 fn keys_of_83_and_84_bytes() {
     let text = [b'k'; 84];
     let doc = fj_document(&[&[0x6F, 0x56], &text[..83], &[0x00]]);
-    let (checked, table) = fj_check(&doc, 3);
+    let (checked, table) = fj_check(&doc, NO_NAMES, 3);
     assert_eq!((checked.verdict, checked.count), (Ok(()), 1));
     assert_eq!(table[..2], [5, 83]);
-    assert_eq!(fractured_json::member(&doc, &[], 0, 3, 0), Ok((4, 88)));
+    assert_eq!(
+        fractured_json::member(&doc, NO_NAMES, &[], 0, 3, 0),
+        Ok((4, 88))
+    );
     let doc = fj_document(&[&[0x6F, 0x00, 84], &text, &[0x00]]);
-    let (checked, table) = fj_check(&doc, 2);
+    let (checked, table) = fj_check(&doc, NO_NAMES, 2);
     assert_eq!((checked.verdict, checked.count), (Ok(()), 1));
     assert_eq!(table[..2], [6, 84]);
-    assert_eq!(fractured_json::member(&doc, &[], 0, 3, 0), Ok((4, 90)));
+    assert_eq!(
+        fractured_json::member(&doc, NO_NAMES, &[], 0, 3, 0),
+        Ok((4, 90))
+    );
     // 57 is a back reference, not a key of 84 bytes.
     let doc = fj_document(&[&[0x6F, 0x57], &text, &[0x00]]);
-    assert_eq!(fj_check(&doc, 2).0.verdict, refuse(38, 4));
+    assert_eq!(fj_check(&doc, NO_NAMES, 2).0.verdict, refuse(38, 4));
 }
 
 #[test]
 fn index_ffff03_and_ffff04() {
     for (key_byte, number, place) in [(0x00, 35, 4), (0x01, 38, 4), (0x02, 38, 4)] {
         let doc = fj_document(&[&[0x6F, key_byte, 0xFF, 0xFF, 0x03, 0x00]]);
-        assert_eq!(fj_check(&doc, 2).0.verdict, refuse(number, place));
+        assert_eq!(fj_check(&doc, NO_NAMES, 2).0.verdict, refuse(number, place));
         let doc = fj_document(&[&[0x6F, key_byte, 0xFF, 0xFF, 0x04, 0x00]]);
-        assert_eq!(fj_check(&doc, 2).0.verdict, refuse(37, 7));
+        assert_eq!(fj_check(&doc, NO_NAMES, 2).0.verdict, refuse(37, 7));
     }
     // A key of 65,535 bytes can never fit; the longest that does has 65,527.
     let length = 65_527_u32;
     let spelling = [length as u8 | 0x80, (length >> 7) as u8 | 0x80, 0x03];
     let doc = fj_document(&[&[0x6F, 0x00], &spelling, &[b'k'; 65_527], &[0x00]]);
     assert_eq!(doc.len(), 65_536);
-    let (checked, table) = fj_check(&doc, 2);
+    let (checked, table) = fj_check(&doc, NO_NAMES, 2);
     assert_eq!((checked.verdict, checked.count), (Ok(()), 1));
     assert_eq!(table, [8, length]);
     // Index 65,535 in a table handed in: over 4,096 keys there is no room.
     let doc = fj_document(&[&[0x6F, 0x01, 0xFF, 0xFF, 0x03, 0x00]]);
     let table = vec![0; 131_072];
-    assert_eq!(fractured_json::end(&doc, &table, 65_536, 3), refuse(38, 4));
+    assert_eq!(
+        fractured_json::end(&doc, NO_NAMES, &table, 65_536, 3),
+        refuse(38, 4)
+    );
 }
 
 #[test]
@@ -541,17 +847,17 @@ fn full_key_table_and_one_key_more() {
     };
     // A table larger than 4,096 keys is used only so far.
     for words in [8_192, 8_193, 10_000] {
-        let (checked, table) = fj_check(&object(4_096), words);
+        let (checked, table) = fj_check(&object(4_096), NO_NAMES, words);
         assert_eq!((checked.verdict, checked.count), (Ok(()), 4_096));
         assert_eq!(table[8_190..8_192], [7 + 4 * 4_095, 2]);
-        let (checked, _) = fj_check(&object(4_097), words);
+        let (checked, _) = fj_check(&object(4_097), NO_NAMES, words);
         assert_eq!(checked.verdict, refuse(40, 6 + 4 * 4_096));
         assert_eq!(checked.count, 4_096);
     }
     for (words, room) in [(0, 0), (1, 0), (2, 1), (3, 1), (8, 4), (9, 4)] {
-        let (checked, _) = fj_check(&object(room), words);
+        let (checked, _) = fj_check(&object(room), NO_NAMES, words);
         assert_eq!((checked.verdict, checked.count), (Ok(()), room as u64));
-        let (checked, _) = fj_check(&object(room + 1), words);
+        let (checked, _) = fj_check(&object(room + 1), NO_NAMES, words);
         assert_eq!(checked.verdict, refuse(40, 6 + 4 * room as u64));
         assert_eq!(checked.count, room as u64);
     }
@@ -559,10 +865,10 @@ fn full_key_table_and_one_key_more() {
     let mut doc = object(4_096);
     doc[4..6].copy_from_slice(&4_097_u16.to_le_bytes());
     doc.extend([0x01, 0xFF, 0x1F, 0x02]);
-    let (checked, table) = fj_check(&doc, 8_194);
+    let (checked, table) = fj_check(&doc, NO_NAMES, 8_194);
     assert_eq!((checked.verdict, checked.count), (Ok(()), 4_096));
     let last = doc.len() as u64 - 4;
-    let ask = |count| fractured_json::member(&doc, &table, count, 3, 4_096);
+    let ask = |count| fractured_json::member(&doc, NO_NAMES, &table, count, 3, 4_096);
     assert_eq!(ask(4_096), Ok((last, last + 3)));
     assert_eq!(ask(4_095), refuse(38, last));
     assert_eq!(ask(4_097), refuse(38, last));
@@ -586,12 +892,12 @@ fn empty_documents_and_far_cursors() {
         u64::MAX,
     ];
     assert_eq!(binary_json::check(&[]), refuse(1, 0));
-    assert_eq!(fj_check(&[], 2).0.verdict, refuse(31, 0));
+    assert_eq!(fj_check(&[], NO_NAMES, 2).0.verdict, refuse(31, 0));
     let array = from_hex("010100000000000000000000");
-    let list = from_hex("464A01A06F0461006F57DF");
+    let objects = from_hex("464A01A06F0461006F57DF");
     for &cursor in &far {
         assert_eq!(binary_json::slot(&[], cursor), refuse(1, 0));
-        assert_eq!(fractured_json::kind(&[], cursor), refuse(31, 0));
+        assert_eq!(fractured_json::kind(&[], NO_NAMES, cursor), refuse(31, 0));
         if cursor != 4 {
             assert_eq!(
                 binary_json::kind_and_size(&array, cursor),
@@ -601,22 +907,28 @@ fn empty_documents_and_far_cursors() {
         }
         assert_eq!(binary_json::slot(&array, cursor), refuse(20, cursor));
         if cursor < 3 {
-            assert_eq!(fractured_json::kind(&list, cursor), refuse(20, cursor));
-        } else if cursor > 10 {
-            assert_eq!(fractured_json::kind(&list, cursor), refuse(35, cursor));
             assert_eq!(
-                fractured_json::end(&list, &[], 0, cursor),
+                fractured_json::kind(&objects, NO_NAMES, cursor),
+                refuse(20, cursor)
+            );
+        } else if cursor > 10 {
+            assert_eq!(
+                fractured_json::kind(&objects, NO_NAMES, cursor),
+                refuse(35, cursor)
+            );
+            assert_eq!(
+                fractured_json::end(&objects, NO_NAMES, &[], 0, cursor),
                 refuse(35, cursor)
             );
         }
         if cursor > 1 {
             assert_eq!(binary_json::element(&array, 4, cursor), refuse(22, 4));
             assert_eq!(
-                fractured_json::element(&list, &[], 0, 3, cursor),
+                fractured_json::element(&objects, NO_NAMES, &[], 0, 3, cursor),
                 refuse(22, 3)
             );
             assert_eq!(
-                fractured_json::member(&list, &[], 0, 4, cursor),
+                fractured_json::member(&objects, NO_NAMES, &[], 0, 4, cursor),
                 refuse(22, 4)
             );
         }
@@ -724,23 +1036,41 @@ fn spoilt_binary_json() {
 fn spoilt_fractured_json() {
     use fractured_json::*;
     let documents = ruling_documents("F");
+    let names = from_hex(A_BC);
     let mut random = Random(2);
     let mut accepted = 0;
-    for _ in 0..20_000 {
+    for trial in 0..20_000 {
         let doc = random.spoil(&documents[random.0 as usize % documents.len()]);
-        let (checked, table) = fj_check(&doc, 2 * random.below(4));
+        let list = match trial % 4 {
+            0 => NO_NAMES.to_vec(),
+            1 => random.spoil(&names),
+            _ => names.clone(),
+        };
+        let (checked, table) = fj_check(&doc, &list, 2 * random.below(4));
         let count = checked.count;
+        if let Err(refusal) = check_list(&list) {
+            assert_eq!((checked.verdict, count), (Err(refusal), 0));
+            assert_eq!(kind(&doc, &list, 3), Err(refusal));
+            assert_eq!(key(&doc, &list, &table, count, 4), Err(refusal));
+            continue;
+        }
         if checked.verdict.is_ok() {
             accepted += 1;
-            assert_eq!(end(&doc, &table, count, 3), Ok(doc.len() as u64));
+            assert_eq!(end(&doc, &list, &table, count, 3), Ok(doc.len() as u64));
         }
         for cursor in 0..doc.len() as u64 + 2 {
-            let whole = end(&doc, &table, count, cursor);
-            let kind = kind(&doc, cursor);
+            let whole = end(&doc, &list, &table, count, cursor);
+            let kind = kind(&doc, &list, cursor);
             assert!(whole.is_err() || kind.is_ok());
             for i in [0, 1, 2, u64::MAX] {
-                let element = element(&doc, &table, count, cursor, i);
-                let member = member(&doc, &table, count, cursor, i);
+                let element = element(&doc, &list, &table, count, cursor, i);
+                let member = member(&doc, &list, &table, count, cursor, i);
+                if let Ok((key_byte, value)) = member {
+                    let key = key(&doc, &list, &table, count, key_byte).unwrap();
+                    assert_eq!(key.end as u64, value);
+                    let found = first_member(&doc, &list, &table, count, cursor, key.text);
+                    assert!(found.unwrap().is_some_and(|first| first <= value));
+                }
                 if let (Ok(_), Ok((kind, length))) = (whole, kind) {
                     let inside = length.is_some_and(|length| i < length);
                     assert_eq!(element.is_ok(), kind == 6 && inside);
@@ -748,13 +1078,17 @@ fn spoilt_fractured_json() {
                 }
             }
             for key in [&b""[..], b"a", b"b"] {
-                let found = first_member(&doc, &table, count, cursor, key);
+                let found = first_member(&doc, &list, &table, count, cursor, key);
                 if let (Ok(_), Ok((kind, _))) = (whole, kind) {
                     assert_eq!(found.is_ok(), kind == 5);
                 }
             }
-            assert!(whole.is_err() || number(&doc, cursor).is_ok() == (kind.unwrap().0 == 3));
-            assert!(whole.is_err() || string(&doc, cursor).is_ok() == (kind.unwrap().0 == 4));
+            assert!(
+                whole.is_err() || number(&doc, &list, cursor).is_ok() == (kind.unwrap().0 == 3)
+            );
+            assert!(
+                whole.is_err() || string(&doc, &list, cursor).is_ok() == (kind.unwrap().0 == 4)
+            );
         }
     }
     assert!(accepted > 1_000, "only {accepted} accepted");

@@ -180,7 +180,7 @@ impl<'a> Members<'a> {
             None => document.member(offset, 0)?.key,
             Some(before) => KeyOffset(document.end(before)?),
         };
-        let Key { text, value } = document.read_key(key)?;
+        let Key { text, value, .. } = document.read_key(key)?;
         self.before = Some(value);
         Ok((text, document.value_at(value)?))
     }
