@@ -37,7 +37,14 @@ pub extern "C" fn fj_check(doc: &[u8], list: &[u8], keys: &mut [u32], out: &mut 
 
 // Where a value ends.
 #[no_mangle]
-pub extern "C" fn fj_end(doc: &[u8], list: &[u8], keys: &[u32], count: usize, at: usize, out: &mut [u64]) -> u32
+pub extern "C" fn fj_end(
+    doc: &[u8],
+    list: &[u8],
+    keys: &[u32],
+    count: usize,
+    at: usize,
+    out: &mut [u64],
+) -> u32
     ensures { λ r. ⌜ hands r (now (out .exit)) ≡ handed 1 (now (out .entry)) (coded one (ask (endOf (now (doc .entry)) (now (list .entry)) (now (keys .entry)) count at))) ⌝ }
 {
     if out.len() < 1 {
@@ -133,7 +140,10 @@ pub extern "C" fn fj_first_member(
     if out.len() < 2 {
         return TOO_FEW;
     }
-    encoding::fractured::give_found(out, fractured_json::first_member(doc, list, keys, count, at, key))
+    encoding::fractured::give_found(
+        out,
+        fractured_json::first_member(doc, list, keys, count, at, key),
+    )
 }
 
 // A key.

@@ -100,19 +100,19 @@ found-is Found.Absent = refl
 found-is (Found.Refused r) = refl
 
 -- a key by its lender
+abbrev pub keyBy : Lender → ℕ → ℕ → ℕ → Key
+keyBy theDocument place len past = Key.Document place len past
+keyBy theList place len past = Key.List place len past
+
 abbrev pub keyCase : KeyRead → Key
-keyCase k = by (k .lender)
-  where
-    by : Lender → Key
-    by theDocument = Key.Document (k .place) (k .len) (k .past)
-    by theList = Key.List (k .place) (k .len) (k .past)
+keyCase k = keyBy (k .lender) (k .place) (k .len) (k .past)
+
+told-by : (l : Lender) (p n e : ℕ) → toldKey (keyBy l p n e) ≡ answers (record { lender = l; place = p; len = n; past = e })
+told-by theDocument p n e = refl
+told-by theList p n e = refl
 
 told-case : (k : KeyRead) → toldKey (keyCase k) ≡ answers k
-told-case k = by (k .lender) refl
-  where
-    by : (l : Lender) → k .lender ≡ l → toldKey (keyCase k) ≡ answers k
-    by theDocument e = cc
-    by theList e = cc
+told-case k = told-by (k .lender) (k .place) (k .len) (k .past)
 
 abbrev keyIs : Asked KeyRead → Key
 keyIs (halt n p u) = Key.Refused (refusal n p)

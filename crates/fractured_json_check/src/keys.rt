@@ -160,7 +160,17 @@ pub(crate) fn check_key(
     let n = key_number_at(doc, at, h.spelled, h.number);
     match n {
         Numeral::Refused(refusal) => Walk::Refused { count, refusal },
-        Numeral::Is { number, past } => numbered(doc, names, keys, links, count, at, kind, number, past),
+        Numeral::Is { number, past } => numbered(
+            doc,
+            names,
+            keys,
+            links,
+            count,
+            at,
+            kind,
+            number,
+            past,
+        ),
     }
 }
 

@@ -23,14 +23,7 @@ pub enum Compared {
 }
 
 // Whether the key at a place has the text `x`.
-fn compare_key(
-    doc: &[u8],
-    list: &[u8],
-    keys: &[u32],
-    count: usize,
-    x: &[u8],
-    at: usize,
-) -> Compared
+fn compare_key(doc: &[u8], list: &[u8], keys: &[u32], count: usize, x: &[u8], at: usize) -> Compared
     ensures { λ r. ⌜ Compares (now (doc .entry)) (now (list .entry)) (now (keys .entry)) count (now (x .entry)) at r ⌝ }
 {
     let k = read_key(doc, list, keys, count, at);

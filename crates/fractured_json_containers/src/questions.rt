@@ -120,7 +120,14 @@ pub fn member(doc: &[u8], list: &[u8], keys: &[u32], count: usize, at: usize, j:
 }
 
 // Where the value of the first member with the key `x` of the object at the cursor stands, or absent.
-pub fn first_member(doc: &[u8], list: &[u8], keys: &[u32], count: usize, at: usize, x: &[u8]) -> Found
+pub fn first_member(
+    doc: &[u8],
+    list: &[u8],
+    keys: &[u32],
+    count: usize,
+    at: usize,
+    x: &[u8],
+) -> Found
     ensures { λ r. ⌜ toldFound r ≡ ask (firstMember (now (doc .entry)) (now (list .entry)) (now (keys .entry)) count at (now (x .entry))) ⌝ }
 {
     let n = wanted(doc, list, at, OBJECT);
@@ -173,7 +180,15 @@ pub fn key_text<'a>(
     let k = key(doc, list, keys, count, at);
     match k {
         Key::Refused(_) => text_of(doc, 0, 0),
-        Key::Document { place, len, past: _ } => text_of(doc, place, len),
-        Key::List { place, len, past: _ } => text_of(list, place, len),
+        Key::Document {
+            place,
+            len,
+            past: _,
+        } => text_of(doc, place, len),
+        Key::List {
+            place,
+            len,
+            past: _,
+        } => text_of(list, place, len),
     }
 }

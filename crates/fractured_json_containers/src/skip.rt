@@ -134,7 +134,16 @@ pub(crate) fn read_key(doc: &[u8], list: &[u8], keys: &[u32], count: usize, at: 
     let n = key_number_at(doc, at, h.spelled, h.number);
     match n {
         Numeral::Refused(r) => KeyText::Refused(r),
-        Numeral::Is { number, past } => numbered_key(doc, list, keys, count, at, kind, number, past),
+        Numeral::Is { number, past } => numbered_key(
+            doc,
+            list,
+            keys,
+            count,
+            at,
+            kind,
+            number,
+            past,
+        ),
     }
 }
 
@@ -155,7 +164,14 @@ pub(crate) fn pass_key(doc: &[u8], list: &[u8], keys: &[u32], count: usize, at: 
 }
 
 // The end of the value at a place, with so many levels left for containers.
-pub(crate) fn skip(doc: &[u8], list: &[u8], keys: &[u32], count: usize, at: usize, levels: usize) -> Place
+pub(crate) fn skip(
+    doc: &[u8],
+    list: &[u8],
+    keys: &[u32],
+    count: usize,
+    at: usize,
+    levels: usize,
+) -> Place
     ensures { λ r. ⌜ toldPlace r ≡ ask (value (passKey (now (doc .entry)) (now (list .entry)) (now (keys .entry)) count) levels (now (doc .entry)) at) ⌝ }
 {
     let o = open_at(doc, at);

@@ -255,7 +255,11 @@ fn ask_with(out: &mut [u8], n: usize, doc: &[u8], row: &[u8], keys: &mut [u32], 
     let q = a.question;
     match q {
         questions::CHECK => check(out, n, doc, &list, keys),
-        questions::STRING_TEXT => put_hex(out, n, fractured_json::string_text(doc, &list, a.cursor)),
+        questions::STRING_TEXT => put_hex(
+            out,
+            n,
+            fractured_json::string_text(doc, &list, a.cursor),
+        ),
         _ => put_answer(out, n, ask(a, doc, &list, keys, l.count, &key)),
     }
 }

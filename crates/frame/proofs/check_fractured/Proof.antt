@@ -8,6 +8,9 @@ key-table-requires c κs = search frame-laws
 slice-aggregate-check : tie.Need-slice-aggregate-check
 slice-aggregate-check c = search frame-laws
 
+slice-aggregate-check-2 : tie.Need-slice-aggregate-check-2
+slice-aggregate-check-2 c = search frame-laws
+
 check-requires : tie.Need-check-requires
 check-requires c κs = search frame-laws
 
@@ -16,4 +19,4 @@ returns c = search frame-laws
 
 pub check-fractured-spec : {M : Type 1} → statement M
 check-fractured-spec =
-    tie.close (tie.spec key-table-requires slice-aggregate-check check-requires returns)
+    tie.close (tie.spec key-table-requires slice-aggregate-check slice-aggregate-check-2 check-requires returns)
