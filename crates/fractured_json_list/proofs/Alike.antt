@@ -42,7 +42,7 @@ same-need true c n p f g h e k = rw (← e) (k tt)
 same-need false c n p f g h e k = rw (← e) refl
 
 module _ (list : List ℕ) where
-  -- the place of the name and its length, and the names before it
+  -- rule 54 is tested alike, and what follows it says the same
   same-fresh : (o n j : ℕ) (words links : List ℕ) (ks : Keys) → Tied list ks j words links → (f : NamePassed → Reading (Unit {0}) (Unit {0})) (h : Unit {0} → Reading (Unit {0}) (Unit {0}))
       → ask (f (added j (bucketOf (part list (o + 2) n) (bucketsIn links)) (o + 2) n words links)) ≡ ask (h tt)
       → ask (freshIn list o n j words links >>= f) ≡ ask (need (not (met list (part list (o + 2) n) ks)) 54 o >>= h)

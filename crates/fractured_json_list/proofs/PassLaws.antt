@@ -1,4 +1,4 @@
--- The names in one pass: one law for each way through `fresh_name`, `pass_name`, `end_at` and `pass_names`.
+-- The names in one pass: one law for each way through `add_name`, `fresh_name`, `pass_name`, `end_at` and `pass_names`.
 use mathlib.Core.Path.{_≡_, sym, ap, _∙_}
 use mathlib.Core.Bool.{Bool, true, false}
 use mathlib.Core.List.{List}

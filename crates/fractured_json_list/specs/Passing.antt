@@ -1,6 +1,6 @@
 -- The names as the code passes them: beside the place of a name it keeps the number of names before it, their pairs, and the links of
 -- their chains. proofs/Alike.antt shows that this is the rules' reading of the names.
-use Prim.Native.Nat.{ℕ, zero, suc, _+_, _*_, _≤_}
+use Prim.Native.Nat.{ℕ, zero, suc, _+_, _*_, _/_, _≤_, min}
 use mathlib.Core.Bool.{not}
 use mathlib.Core.List.{List}
 use lib.Dec.{leb, eqb}
@@ -46,13 +46,23 @@ namesIn list (suc n) o j words links = do
   p ← nameIn list o j words links
   namesIn list n (p .next) (j + 1) (p .words) (p .links)
 
+-- what the code answers of a name, with the pairs and the links that it left
+abbrev pub toldStep : Step → List ℕ → List ℕ → Asked NamePassed
+toldStep (Past next) words links = answers (namePassed next words links)
+toldStep (Refused r) words links = refuses (r .number) (r .place)
+
+-- ---- what is known on the way
+
+-- the most names that a 16-bit count can say
+abbrev pub mostNames : ℕ
+mostNames = 65_535
+
+-- room for m names is enough for a list that says that it has n: a name takes two bytes or more
+abbrev pub RoomFor : List ℕ → ℕ → ℕ → Type 0
+RoomFor list n m = (n ≤ mostNames) × (3 ≤ length list) × (min n (length list / 2) ≤ m)
+
 -- where the length of name j can stand: a name before it takes two bytes or more, and no more than its length can say
 pub record Placed (list : List ℕ) (j o : ℕ) : Type 0 where
   pub inside : o ≤ length list
   pub least : 2 * j ≤ o
   pub most : o ≤ 3 + j * 65_537
-
--- what the code answers of a name, with the pairs and the links that it left
-abbrev pub toldStep : Step → List ℕ → List ℕ → Asked NamePassed
-toldStep (Past next) words links = answers (namePassed next words links)
-toldStep (Refused r) words links = refuses (r .number) (r .place)

@@ -1,12 +1,20 @@
 // The key list of Fractured JSON: its own check, proved equal to its rules in `fractured_json_rules`, how many names it has, and
 // where each of them stands.
 pub mod names;
-mod start;
+mod room;
 mod walk;
 
 use json::Refusal;
 use json::Verdict;
 use names::count_of;
+use room::LONG;
+use room::MIDDLE;
+use room::SHORT;
+use room::most_names;
+use room::pass_long;
+use room::pass_middle;
+use room::pass_most;
+use room::pass_short;
 use walk::end_at;
 ghost use mathlib.Core.Path.{_≡_};
 ghost use Rattle.json.specs.Reading.{ask, told};
@@ -37,5 +45,15 @@ pub fn check_list(list: &[u8]) -> Verdict
     if n == 0 {
         return end_at(list, 3);
     }
-    start::pass_all(list, n)
+    let most = most_names(list, n);
+    if most <= SHORT {
+        return pass_short(list, n);
+    }
+    if most <= MIDDLE {
+        return pass_middle(list, n);
+    }
+    if most <= LONG {
+        return pass_long(list, n);
+    }
+    pass_most(list, n)
 }

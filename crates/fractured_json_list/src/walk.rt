@@ -1,4 +1,4 @@
-// The names in one pass: each has its pair, start and length of its text, and its link in a chain of names with equal hashes, by
+// The names in one pass: each has its pair, start and length of its text, and its link in the chain of its bucket of hashes, by
 // which rule 54 is tested.
 use crate::names::number_at;
 use crate::refusal;
@@ -13,7 +13,7 @@ ghost use Prim.Native.Nat.{_+_, _/_, _^_, _≤_, _<_, min};
 ghost use lib.Dec.{eqb};
 ghost use lib.ListN.{length};
 ghost use Rattle.json.specs.Reading.{ask, need, told};
-ghost use Rattle.fractured_json_list.specs.Passing.{namePassed, added, freshIn, nameIn, namesIn, Placed, toldStep};
+ghost use Rattle.fractured_json_list.specs.Passing.{namePassed, added, freshIn, nameIn, namesIn, toldStep, mostNames, RoomFor, Placed};
 
 // How a name is passed: the place of the next length, or a refusal.
 pub enum Step {
@@ -60,7 +60,7 @@ fn fresh_name(
 
 // Name j, whose length stands at `at`.
 fn pass_name(list: &[u8], words: &mut [u32], links: &mut [u16], j: usize, at: usize) -> Step
-    requires { ⌜ (j < 65_535) × Placed (now list) j at × (min (j + 1) (length (now list) / 2) ≤ length (now words) / 2) ⌝ }
+    requires { ⌜ (j < mostNames) × Placed (now list) j at × (min (j + 1) (length (now list) / 2) ≤ length (now words) / 2) ⌝ }
     ensures { λ r. ⌜ toldStep r (now (words .exit)) (now (links .exit)) ≡ ask (nameIn (now (list .entry)) at j (now (words .entry)) (now (links .entry))) ⌝ }
 {
     let left = list.len() - at;
@@ -87,7 +87,7 @@ pub(crate) fn end_at(list: &[u8], at: usize) -> Verdict
 // The n names from 3 on, and then the end. There is room for as many names as n says and the list can hold: each takes two bytes or
 // more.
 pub(crate) fn pass_names(list: &[u8], n: usize, words: &mut [u32], links: &mut [u16]) -> Verdict
-    requires { ⌜ (n ≤ 65_535) × (3 ≤ length (now list)) × (min n (length (now list) / 2) ≤ length (now words) / 2) ⌝ }
+    requires { ⌜ RoomFor (now list) n (length (now words) / 2) ⌝ }
     ensures { λ r. ⌜ told r ≡ ask (namesIn (now (list .entry)) n 3 0 (now (words .entry)) (now (links .entry))) ⌝ }
 {
     let mut at = 3;

@@ -5,7 +5,11 @@ use Rattle.fractured_json_list.proofs.check_list.Reads as reads
 use Rattle.fractured_json_list.proofs.check_list.Lts as lts
 use Rattle.fractured_json_list.proofs.names.count_of.Reads as count-of-reads
 use Rattle.fractured_json_list.proofs.refusal.Reads as refusal-reads
-use Rattle.fractured_json_list.proofs.start.pass_all.Reads as pass-all-reads
+use Rattle.fractured_json_list.proofs.room.most_names.Reads as most-names-reads
+use Rattle.fractured_json_list.proofs.room.pass_long.Reads as pass-long-reads
+use Rattle.fractured_json_list.proofs.room.pass_middle.Reads as pass-middle-reads
+use Rattle.fractured_json_list.proofs.room.pass_most.Reads as pass-most-reads
+use Rattle.fractured_json_list.proofs.room.pass_short.Reads as pass-short-reads
 use Rattle.fractured_json_list.proofs.walk.end_at.Reads as end-at-reads
 
 refusal-requires : tie.Need-refusal-requires
@@ -38,11 +42,32 @@ end-at-requires c κs = search check-laws
 returns-4 : tie.Need-returns-4
 returns-4 c = search check-laws
 
-pass-all-requires : tie.Need-pass-all-requires
-pass-all-requires c κs = search check-laws
+most-names-requires : tie.Need-most-names-requires
+most-names-requires c κs = search check-laws
+
+pass-short-requires : tie.Need-pass-short-requires
+pass-short-requires c κs = search check-laws
 
 returns-5 : tie.Need-returns-5
 returns-5 c = search check-laws
+
+pass-middle-requires : tie.Need-pass-middle-requires
+pass-middle-requires c κs = search check-laws
+
+returns-6 : tie.Need-returns-6
+returns-6 c = search check-laws
+
+pass-long-requires : tie.Need-pass-long-requires
+pass-long-requires c κs = search check-laws
+
+returns-7 : tie.Need-returns-7
+returns-7 c = search check-laws
+
+pass-most-requires : tie.Need-pass-most-requires
+pass-most-requires c κs = search check-laws
+
+returns-8 : tie.Need-returns-8
+returns-8 c = search check-laws
 
 pub check-list-spec : {M : Type 1} → statement M
 check-list-spec =
@@ -58,5 +83,12 @@ check-list-spec =
     count-of-requires
     end-at-requires
     returns-4
-    pass-all-requires
-    returns-5)
+    most-names-requires
+    pass-short-requires
+    returns-5
+    pass-middle-requires
+    returns-6
+    pass-long-requires
+    returns-7
+    pass-most-requires
+    returns-8)

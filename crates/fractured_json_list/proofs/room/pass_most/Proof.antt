@@ -1,8 +1,8 @@
 use Rattle.fractured_json_list.proofs.CheckLaws.{room-laws}
-use Rattle.fractured_json_list.proofs.start.pass_most.Statement.{statement}
-use Rattle.fractured_json_list.proofs.start.pass_most.Tie as tie
-use Rattle.fractured_json_list.proofs.start.pass_most.Reads as reads
-use Rattle.fractured_json_list.proofs.start.pass_most.Lts as lts
+use Rattle.fractured_json_list.proofs.room.pass_most.Statement.{statement}
+use Rattle.fractured_json_list.proofs.room.pass_most.Tie as tie
+use Rattle.fractured_json_list.proofs.room.pass_most.Reads as reads
+use Rattle.fractured_json_list.proofs.room.pass_most.Lts as lts
 use Rattle.fractured_json_list.proofs.walk.pass_names.Reads as pass-names-reads
 
 slice-aggregate-pass-names : tie.Need-slice-aggregate-pass-names
