@@ -17,6 +17,7 @@ use Rattle.fractured_json_rules.specs.KeyList.{namesFrom, countIn, keyList}
 use Rattle.fractured_json_rules.specs.Verdict.{header, inTurn, value, checkKey, document, check}
 use Rattle.fractured_json_rules.specs.KeyTable.{roomOf, stored, Checked, checkedBy, checked}
 use Rattle.fractured_json_values.specs.Opened.{entry}
+use Rattle.fractured_json_keys.proofs.Chained.{all-zero}
 use Rattle.fractured_json_values.proofs.Carried.{carry, carry-then, carry-need, carry-header}
 use Rattle.fractured_json_values.proofs.Headers.{unlike, header-opens}
 use Rattle.fractured_json_check.specs.Told.{toldChecked}
@@ -26,11 +27,6 @@ use Rattle.fractured_json_check.specs.declared.walk.Walk.{Walk}
 use Rattle.fractured_json_check.proofs.Stored.{walk-is}
 
 -- ---- the walk from the root, with links that are all 0
-
-all-zero : (n i : ℕ) → _≡_ {A = ℕ} (getD (replicate n 0) i 0) 0
-all-zero zero i = refl
-all-zero (suc n) zero = refl
-all-zero (suc n) (suc i) = all-zero n i
 
 -- one entry of an array is its value
 one-entry : (doc : List ℕ) (names : ℕ) (s : Table) → inTurn (entry false (keyIn doc names) (value (keyIn doc names) deepest doc)) 1 3 s ≡ value (keyIn doc names) deepest doc 3 s
