@@ -67,7 +67,7 @@ pub fn check(doc: &[u8], list: &[u8], keys: &mut [u32]) -> Checked
 {
     let l = check_list(list);
     match l {
-        Verdict::Refused(r) => refuse(r, 0),
+        Verdict::Refused(refusal) => refuse(refusal, 0),
         Verdict::Accepted => check_document(doc, count_of(list), keys),
     }
 }

@@ -19,7 +19,7 @@ pub fn open_question(doc: &[u8], list: &[u8], at: usize) -> Verdict
 {
     let l = check_list(list);
     match l {
-        Verdict::Refused(r) => Verdict::Refused(r),
+        Verdict::Refused(refusal) => Verdict::Refused(refusal),
         Verdict::Accepted => {
             let h = read_header(doc);
             match h {
