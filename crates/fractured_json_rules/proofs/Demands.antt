@@ -7,18 +7,19 @@ use mathlib.Core.Path.{_≡_, refl, sym, ap, _∙_, subst}
 use native.Mathlib.Omega.{arith}
 use lib.Dec.{eqb-refl, lt→ltb, ltb→lt}
 use lib.ListN.{length, getD}
-use Rattle.json.specs.Bytes.{Bytes, part}
+use Rattle.json.specs.Bytes.{Bytes, number, part}
 use Rattle.json.specs.Limits.{deepest, mostKeys}
-use Rattle.json.specs.Reading.{Outcome, done, Asked, ask, answers, refuses}
+use Rattle.json.specs.Reading.{Outcome, halt, done, Asked, ask, answers, refuses}
 use Rattle.json.specs.Tree.{Tree, num, str, arr, obj, Trees, Members, size, sizem, depth, ElementIs, MemberIs, Lacks, NoNumber, NoString, NoArray, NoObject, Subtree}
-use Rattle.json.proofs.Reading.{then, stops, pass, fail, need-yes}
+use Rattle.json.proofs.Reading.{past, then, stops, pass, fail, need-yes}
 use Rattle.json.proofs.Tree.{element-at, member-at, member-below, subtree-depth}
 use Rattle.fractured_json_rules.specs.Meaning.{Names, Lists, noKey, Keys, afterLength, Means}
-use Rattle.fractured_json_rules.specs.Verdict.{checkKey, document, check, verdict, keysOf}
+use Rattle.fractured_json_rules.specs.Verdict.{Numeral, listedKey, checkKey, document, check, verdict, keysOf}
+use Rattle.fractured_json_rules.specs.KeyList.{countIn, noNames, nameOf}
 use Rattle.fractured_json_rules.specs.KeyTable.{roomOf, keyOf, checked}
 use Rattle.fractured_json_rules.specs.TreeOf.{treeOf, lengthIn, keyEnd}
 use Rattle.fractured_json_rules.specs.Leads.{elementPlace, keyPlace, Leads, element, value, StandsFor}
-use Rattle.fractured_json_rules.specs.Questions.{passKey, endOf, kind, numberAt, stringAt, stringBytes, elementFrom, elementAt, MemberAt}
+use Rattle.fractured_json_rules.specs.Questions.{theList, nameKey, passKey, endOf, kind, numberAt, stringAt, stringBytes, elementFrom, elementAt, MemberAt}
 use Rattle.fractured_json_rules.specs.Questions.{memberFrom, memberAt, Found, valueAt, absent, firstMember, keyAt, keyBytes}
 use Rattle.fractured_json_rules.specs.Answers.{kindOf, valueOf}
 use Rattle.fractured_json_rules.proofs.KeyList.{list-is}
@@ -65,6 +66,30 @@ pub one-tree : (doc list : List ℕ) (t u : Tree) → Means doc list t → Means
 one-tree doc list t u m n =
     let room = length (m .keys) + length (n .keys) in
     sym (tree-of room doc list t m (omega arith)) ∙ tree-of room doc list u n (omega arith)
+
+-- ---- 38 for a global index is given exactly if the index is not under the count; so a key list of count 0 means what no list
+-- meant. In the check, and in the questions.
+
+pub index-found : (names o : ℕ) (n : Numeral) (ks : Keys) → n .is < names → listedKey names o n ks ≡ done (n .past) ks
+unfolding listedKey
+index-found names o n ks h = pass _ _ _ _ ks (lt→ltb _ _ h)
+
+pub index-not-found : (names o : ℕ) (n : Numeral) (ks : Keys) → names ≤ n .is → listedKey names o n ks ≡ halt 38 o ks
+unfolding listedKey
+index-not-found names o n ks h = fail _ _ _ _ ks (past h)
+
+pub name-found : (list : List ℕ) (o : ℕ) (n : Numeral) → n .is < countIn list
+    → ask (nameKey list o n) ≡ answers (record { lender = theList; place = nameOf list (n .is) .start; len = nameOf list (n .is) .len; past = n .past })
+unfolding nameKey
+name-found list o n h = pass _ _ _ _ tt (lt→ltb _ _ h)
+
+pub name-not-found : (list : List ℕ) (o : ℕ) (n : Numeral) → countIn list ≤ n .is → ask (nameKey list o n) ≡ refuses 38 o
+unfolding nameKey
+name-not-found list o n h = fail _ _ _ _ tt (past h)
+
+pub no-name-found : (o : ℕ) (n : Numeral) (ks : Keys) → (listedKey 0 o n ks ≡ halt 38 o ks) × (ask (nameKey noNames o n) ≡ refuses 38 o)
+unfolding number
+no-name-found o n ks = (index-not-found 0 o n ks (omega arith), name-not-found noNames o n (omega arith))
 
 -- ---- In the key table, each immediate key passed before the end or the refusal has its pair; all other words keep what
 -- they held. Beside its verdict the check gives the number of those pairs.
