@@ -25,6 +25,7 @@ use Rattle.fractured_json_rules.proofs.KeyList.{list-exactly}
 use Rattle.fractured_json_rules.proofs.Answers.{KeyAnswer}
 use Rattle.fractured_json_rules.proofs.Demands as Rules
 use Rattle.fractured_json_check.specs.Told.{toldChecked}
+use Rattle.fractured_json_check.proofs.Checks.{bad-list}
 use Rattle.fractured_json_answers.specs.Told.{toldPlace, toldKind, toldNumber, toldText, toldMember, toldFound, toldKey}
 use Rattle.fractured_json_check.specs.declared.answers.Checked.{Checked}
 use Rattle.fractured_json_answers.specs.declared.Place.{Place}
@@ -185,6 +186,15 @@ module _ (doc list words after : List ℕ) (r : Checked) (contract : toldChecked
 
   pub words-are : after ≡ checked doc list words .words
   words-are = ap (λ c. c .words) contract
+
+  -- a bad key list refuses the whole check with its own number and place, and leaves the key table as it was
+  pub bad-list-refused : (n p : ℕ) → ask (keyList list) ≡ refuses n p → (r .verdict ≡ Verdict.Refused (refusal n p)) × (r .count ≡ 0) × (after ≡ words)
+  bad-list-refused n p e =
+      let c = bad-list doc list words n p e in (
+        sym (verdict-is (r .verdict)) ∙ ap verdictIs (verdict-says ∙ ap (λ x. x .verdict) c),
+        count-is ∙ ap (λ x. x .count) c,
+        words-are ∙ ap (λ x. x .words) c,
+      )
 
   pub check-keeps : (length after ≡ length words)
       × ((j : ℕ) → j < r .count → keyOf after j ≡ getD (keysOf (verdict (roomOf words) doc list)) j noKey)

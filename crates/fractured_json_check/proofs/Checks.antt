@@ -109,10 +109,14 @@ unfolding keyList
 carry-list list s =
     carry-then _ _ _ _ s (carry-need _ _ _ s) λ _. carry-then _ _ _ _ s (carry-need _ _ _ s) λ _. carry-then _ _ _ _ s (carry-need _ _ _ s) λ _. carry-names list _ _ _ s
 
+-- a bad list refuses the whole check, and the lent words stay as they were
+pub bad-list : (doc list words : List ℕ) (n p : ℕ) → ask (keyList list) ≡ refuses n p → checked doc list words ≡ record { verdict = refuses n p; count = 0; words = words }
+unfolding check stored
+bad-list doc list words n p e = ap (checkedBy words) (stops _ _ _ (carry-list list [] ∙ ap (carry []) e))
+
 module _ (doc list words : List ℕ) (v : Verdict) (h : told v ≡ ask (keyList list)) where
   pub list-refused : (r : Refusal) (c : Answer) → v ≡ Verdict.Refused r → told (c .verdict) ≡ refuses (r .number) (r .place) → c .count ≡ 0 → toldChecked c words ≡ checked doc list words
-  unfolding check stored
-  list-refused r c e a b = rw (a, b) (ap (checkedBy words) (sym (stops _ _ _ (carry-list list [] ∙ ap (carry []) (sym h ∙ ap told e)))))
+  list-refused r c e a b = rw (a, b) (sym (bad-list doc list words (r .number) (r .place) (sym h ∙ ap told e)))
 
   pub list-passed : v ≡ Verdict.Accepted → (n : ℕ) (c : Answer) (after : List ℕ) → n ≡ countIn list → toldChecked c after ≡ checkedBy words (document (roomOf words) doc n [])
       → toldChecked c after ≡ checked doc list words

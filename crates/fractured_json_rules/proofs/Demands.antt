@@ -15,11 +15,11 @@ use Rattle.json.proofs.Reading.{past, then, stops, pass, fail, need-yes}
 use Rattle.json.proofs.Tree.{element-at, member-at, member-below, subtree-depth}
 use Rattle.fractured_json_rules.specs.Meaning.{Names, Lists, noKey, Keys, afterLength, Means}
 use Rattle.fractured_json_rules.specs.Verdict.{Numeral, listedKey, checkKey, document, check, verdict, keysOf}
-use Rattle.fractured_json_rules.specs.KeyList.{countIn, noNames, nameOf}
+use Rattle.fractured_json_rules.specs.KeyList.{countIn, keyList, noNames, nameOf}
 use Rattle.fractured_json_rules.specs.KeyTable.{roomOf, keyOf, checked}
 use Rattle.fractured_json_rules.specs.TreeOf.{treeOf, lengthIn, keyEnd}
 use Rattle.fractured_json_rules.specs.Leads.{elementPlace, keyPlace, Leads, element, value, StandsFor}
-use Rattle.fractured_json_rules.specs.Questions.{theList, nameKey, passKey, endOf, kind, numberAt, stringAt, stringBytes, elementFrom, elementAt, MemberAt}
+use Rattle.fractured_json_rules.specs.Questions.{opening, theList, nameKey, passKey, endOf, kind, numberAt, stringAt, stringBytes, elementFrom, elementAt, MemberAt}
 use Rattle.fractured_json_rules.specs.Questions.{memberFrom, memberAt, Found, valueAt, absent, firstMember, keyAt, keyBytes}
 use Rattle.fractured_json_rules.specs.Answers.{kindOf, valueOf}
 use Rattle.fractured_json_rules.proofs.KeyList.{list-is}
@@ -66,6 +66,12 @@ pub one-tree : (doc list : List ℕ) (t u : Tree) → Means doc list t → Means
 one-tree doc list t u m n =
     let room = length (m .keys) + length (n .keys) in
     sym (tree-of room doc list t m (omega arith)) ∙ tree-of room doc list u n (omega arith)
+
+-- ---- A bad key list refuses every question with its own number and place: each begins with `opening`.
+
+pub bad-list-opening : (doc list : List ℕ) (c n p : ℕ) → ask (keyList list) ≡ refuses n p → ask (opening doc list c) ≡ refuses n p
+unfolding opening
+bad-list-opening doc list c n p e = stops _ _ tt e
 
 -- ---- 38 for a global index is given exactly if the index is not under the count; so a key list of count 0 means what no list
 -- meant. In the check, and in the questions.
