@@ -90,8 +90,8 @@ module _ (doc list words : List ℕ) (count at kind number past : ℕ) where
     unfolding numberedBy nameKey choose
     found h = let l : number < countIn list = omega arith in rw (ne-eqb kind 0 f, ne-eqb kind 1 g) (pass _ _ _ _ tt (lt→ltb _ _ l))
 
-    pub as-name : n < 65_536 → number < n → ReadsKey list (ask (numberedBy (textKey doc at) (backKey doc words count at) (nameKey list at) kind (numeral number past))) (KeyText.Name number past)
-    as-name l h = (found h, omega arith)
+    pub as-name : number < n → ReadsKey list (ask (numberedBy (textKey doc at) (backKey doc words count at) (nameKey list at) kind (numeral number past))) (KeyText.Name number past)
+    as-name h = (found h, omega arith)
 
     pub as-unlisted : n ≤ number → ask (numberedBy (textKey doc at) (backKey doc words count at) (nameKey list at) kind (numeral number past)) ≡ refuses 38 at
     unfolding numberedBy nameKey choose

@@ -5,15 +5,17 @@ use mathlib.Core.List.{List}
 use Prim.Native.Nat.{ℕ, zero, suc, _-_, _≤_, _<_}
 use native.Mathlib.Omega.{arith}
 use borrow.Author.Needs.{needs}
+use borrow.Author.Tests.{eq-eqb, ne-eqb}
+use lib.Dec.{eqb}
 use Rattle.json.specs.Bytes.{part}
 use Rattle.json.specs.Choose.{choose}
 use Rattle.json.specs.Reading.{Asked, ask, answers, refuses, _>>=_}
 use Rattle.json.specs.Texts.{compareTexts, isEqual}
 use Rattle.json.specs.declared.Refusal.{Refusal}
 use Rattle.json.proofs.Reading.{then, stops}
-use Rattle.fractured_json_rules.specs.KeyList.{nameOf}
 use Rattle.fractured_json_rules.specs.Verdict.{value}
 use Rattle.fractured_json_rules.specs.Questions.{readKey, passKey, Found, valueAt, absent, findFrom, findIn}
+use Rattle.fractured_json_list.specs.Finding.{Named}
 use Rattle.fractured_json_containers.specs.Asked.{inDocument, inList, ReadsKey, ComparesAs, Compares, Looks}
 use Rattle.fractured_json_answers.specs.Told.{toldPlace}
 use Rattle.fractured_json_answers.specs.declared.Place.{Place}
@@ -39,22 +41,20 @@ module _ (doc list words : List ℕ) (count : ℕ) (x : List ℕ) (at : ℕ) (k 
     pub key-other : c ≡ false → ComparesAs doc list words count x at false past
     key-other e = key-compared false e
 
-  pub name-number : (j past : ℕ) → k ≡ KeyText.Name j past → j < 65_536
-  name-number j past q = let w : ReadsKey list (ask (readKey doc list words count at)) (KeyText.Name j past) = rw q at ks in w .1
-
-  module _ (j past : ℕ) (q : k ≡ KeyText.Name j past) (start len : ℕ) (a : start ≡ nameOf list j .start) (b : len ≡ nameOf list j .len) (t : List ℕ) (ts : t ≡ part list start len) (c : Bool) (cs : c ≡ isEqual (compareTexts t x)) where
-    name-compared : (d : Bool) → c ≡ d → ComparesAs doc list words count x at d past
-    name-compared d e =
+  module _ (named : ℕ) (ns : Named list x named) (j past : ℕ) (q : k ≡ KeyText.Name j past) where
+    name-compared : (b : Bool) → eqb j named ≡ b → ComparesAs doc list words count x at b past
+    unfolding Named
+    name-compared b e =
         let w : ReadsKey list (ask (readKey doc list words count at)) (KeyText.Name j past) = rw q at ks in
-        (inList list j past, w .0, sym (rw (ts, a, b) at cs) ∙ e, refl)
+        (inList list j past, w .0, ns j (w .1) ∙ e, refl)
 
-    pub name-same : c ≡ true → ComparesAs doc list words count x at true past
-    name-same e = name-compared true e
+    pub name-same : j ≡ named → ComparesAs doc list words count x at true past
+    name-same e = name-compared true (eq-eqb j named e)
 
-    pub name-other : c ≡ false → ComparesAs doc list words count x at false past
-    name-other e = name-compared false e
+    pub name-other : (j ≡ named → ⊥) → ComparesAs doc list words count x at false past
+    name-other n = name-compared false (ne-eqb j named n)
 
-pub ruleset compare-laws = (compare-refused, key-same, key-other, name-number, name-same, name-other, needs)
+pub ruleset compare-laws = (compare-refused, key-same, key-other, name-same, name-other, needs)
 
 -- ---- one member
 

@@ -6,25 +6,29 @@ use Prim.Native.Nat.{ℕ, _≤_, _<_}
 use native.Mathlib.Omega.{arith}
 use borrow.Author.Needs.{needs}
 use lib.Dec.{lt→ltb, ltb→lt}
-use lib.ListN.{length}
+use lib.ListN.{length, getD}
+use mir.Syntax.{w8}
+use mir.Val.{Fits}
 use Rattle.json.specs.Bytes.{part}
 use Rattle.json.specs.Reading.{Asked, ask, answers, refuses, told}
 use Rattle.json.specs.declared.Refusal.{Refusal}
 use Rattle.json.specs.declared.Verdict.{Verdict}
-use Rattle.json.proofs.Reading.{then, stops, pass, fail}
-use Rattle.fractured_json_rules.specs.KeyList.{nameOf}
+use Rattle.json.proofs.Bytes.{number-small}
+use Rattle.json.proofs.Reading.{step, then, stops, pass, fail}
+use Rattle.fractured_json_rules.specs.KeyList.{countIn, keyList, nameOf}
 use Rattle.fractured_json_rules.specs.Verdict.{inTurn, value}
-use Rattle.fractured_json_rules.specs.Questions.{opening, theDocument, theList, readKey, passKey, endOf, anObject, anArray, elementFrom, elementAt, MemberAt, memberFrom, memberAt, Found, findIn, firstMember, keyAt, keyBytes}
+use Rattle.fractured_json_rules.specs.Questions.{opening, typeAt, theDocument, theList, readKey, passKey, endOf, anObject, anArray, elementFrom, elementAt, MemberAt, memberFrom, memberAt, Found, findIn, firstMember, keyAt, keyBytes}
 use Rattle.fractured_json_values.specs.Opened.{entry, ReadsNumeral}
 use Rattle.fractured_json_scalars.specs.Asked.{wantedIn}
+use Rattle.fractured_json_list.specs.Finding.{namedFrom, Named}
 use Rattle.fractured_json_containers.specs.Asked.{ReadsKey}
 use Rattle.fractured_json_answers.specs.Told.{toldPlace, toldKey}
 use Rattle.fractured_json_answers.specs.declared.Key.{Key}
 use Rattle.fractured_json_answers.specs.declared.Place.{Place}
 use Rattle.fractured_json_values.specs.declared.values.Numeral.{Numeral}
 use Rattle.fractured_json_containers.specs.declared.skip.KeyText.{KeyText}
+use Rattle.fractured_json_list.proofs.FindLaws.{answer-names}
 use Rattle.fractured_json_scalars.proofs.Entering.{length-refused, length-read}
-use Rattle.fractured_json_containers.proofs.LookupLaws.{name-number}
 
 -- ---- its end
 
@@ -105,11 +109,21 @@ module _ (doc list words : List ℕ) (count at : ℕ) (x : List ℕ) (c : Numera
   unfolding firstMember
   find-refused r q = sym (length-refused doc list at anObject _ c cs r q)
 
+  -- a length was read, so the key list is good
+  list-good : (n p : ℕ) → c ≡ Numeral.Is n p → ask (keyList list) ≡ answers tt
+  unfolding wantedIn typeAt opening
+  list-good n p q =
+      let w : ReadsNumeral (length doc) (ask (wantedIn doc list at 9)) (Numeral.Is n p) = rw q at cs in
+      step _ _ tt (step _ _ tt (step _ _ tt (w .0) .first) .first) .first
+
+  pub name-found : (n p r : ℕ) → c ≡ Numeral.Is n p → r ≡ namedFrom list x (countIn list) 3 0 → Named list x r
+  name-found n p r q e = answer-names list x r (list-good n p q) e
+
   pub find-read : (n p : ℕ) (r : Asked Found) → c ≡ Numeral.Is n p → r ≡ ask (findIn doc list words count x n p) → r ≡ ask (firstMember doc list words count at x)
   unfolding firstMember
   find-read n p r q e = e ∙ sym (length-read doc list at anObject _ c cs n p q)
 
-pub ruleset first-member-laws = (find-refused, find-read, needs)
+pub ruleset first-member-laws = (find-refused, name-found, find-read, needs)
 
 -- ---- a key
 
@@ -130,11 +144,18 @@ module _ (doc list words : List ℕ) (count at : ℕ) (v : Verdict) (vs : told v
         → answers (record { lender = theDocument; place = s; len = l; past = p }) ≡ ask (keyAt doc list words count at)
     key-in-document s l p q = let w : ReadsKey list (ask (readKey doc list words count at)) (KeyText.At s l p) = rw q at ks in sym (goes-on ∙ w)
 
+    pub name-number : (j p : ℕ) → k ≡ KeyText.Name j p → ((i : ℕ) → Fits w8 (getD list i 0)) → j < 65_536
+    name-number j p q g =
+        let w : ReadsKey list (ask (readKey doc list words count at)) (KeyText.Name j p) = rw q at ks in
+        let l = w .1 in
+        let m = number-small list (λ i. g i .fits) 1 2 in
+        omega arith
+
     pub key-in-list : (j p : ℕ) → k ≡ KeyText.Name j p → (s l : ℕ) → s ≡ nameOf list j .start → l ≡ nameOf list j .len
         → answers (record { lender = theList; place = s; len = l; past = p }) ≡ ask (keyAt doc list words count at)
     key-in-list j p q s l a b = let w : ReadsKey list (ask (readKey doc list words count at)) (KeyText.Name j p) = rw q at ks in rw (a, b) (sym (goes-on ∙ w .0))
 
-pub ruleset key-laws = (key-closed, key-unread, key-in-document, key-in-list, name-number, needs)
+pub ruleset key-laws = (key-closed, key-unread, key-in-document, name-number, key-in-list, needs)
 
 -- and its text
 module _ (doc list words : List ℕ) (count at : ℕ) (k : Key) (ks : toldKey k ≡ ask (keyAt doc list words count at)) where

@@ -5,7 +5,7 @@ use mathlib.Core.List.{List}
 use mathlib.Core.Path.{_≡_}
 use Rattle.json.specs.Reading.{Asked, ask, answers, refuses}
 use Rattle.json.specs.Texts.{compareTexts, isEqual}
-use Rattle.fractured_json_rules.specs.KeyList.{nameOf}
+use Rattle.fractured_json_rules.specs.KeyList.{countIn, nameOf}
 use Rattle.fractured_json_rules.specs.Questions.{theDocument, theList, KeyRead, textIn, readKey, valueAt, absent, findFrom}
 use Rattle.fractured_json_containers.specs.declared.skip.KeyText.{KeyText}
 use Rattle.fractured_json_containers.specs.declared.lookup.Compared.{Compared}
@@ -20,10 +20,10 @@ inDocument start len past = record { lender = theDocument; place = start; len = 
 abbrev pub inList : List ℕ → ℕ → ℕ → KeyRead
 inList list j past = record { lender = theList; place = nameOf list j .start; len = nameOf list j .len; past = past }
 
--- the number of a name is one of 16 bits
+-- the number of a name is under the count
 abbrev pub ReadsKey : List ℕ → Asked KeyRead → KeyText → Type 0
 ReadsKey list q (KeyText.At start len past) = q ≡ answers (inDocument start len past)
-ReadsKey list q (KeyText.Name j past) = (q ≡ answers (inList list j past)) × (j < 65_536)
+ReadsKey list q (KeyText.Name j past) = (q ≡ answers (inList list j past)) × (j < countIn list)
 ReadsKey list q (KeyText.Refused r) = q ≡ refuses (r .number) (r .place)
 
 -- ---- the first member by key

@@ -1,17 +1,18 @@
-// The first member of an object by its key.
+// The first member of an object by its key. A key that is a name of the key list is compared by its number: the text has been looked up
+// among the names before.
 use crate::skip::INNER;
 use crate::skip::KeyText;
 use crate::skip::read_key;
 use crate::skip::skip;
 use fractured_json_answers::Found;
 use fractured_json_answers::Place;
-use fractured_json_list::names::name_of;
 use fractured_json_values::texts::text_of;
 use json::Refusal;
 use text::same;
 ghost use mathlib.Core.Path.{_≡_};
 ghost use Rattle.json.specs.Reading.{ask};
 ghost use Rattle.fractured_json_rules.specs.Questions.{findIn};
+ghost use Rattle.fractured_json_list.specs.Finding.{Named};
 ghost use Rattle.fractured_json_containers.specs.Asked.{Compares, Looks};
 ghost use Rattle.fractured_json_answers.specs.Told.{toldFound};
 
@@ -22,8 +23,17 @@ pub enum Compared {
     Refused(Refusal),
 }
 
-// Whether the key at a place has the text `x`.
-fn compare_key(doc: &[u8], list: &[u8], keys: &[u32], count: usize, x: &[u8], at: usize) -> Compared
+// Whether the key at a place has the text `x`; a name has it exactly if its number is `named`.
+fn compare_key(
+    doc: &[u8],
+    list: &[u8],
+    keys: &[u32],
+    count: usize,
+    x: &[u8],
+    named: usize,
+    at: usize,
+) -> Compared
+    requires { ⌜ Named (now list) (now x) named ⌝ }
     ensures { λ r. ⌜ Compares (now (doc .entry)) (now (list .entry)) (now (keys .entry)) count (now (x .entry)) at r ⌝ }
 {
     let k = read_key(doc, list, keys, count, at);
@@ -36,8 +46,7 @@ fn compare_key(doc: &[u8], list: &[u8], keys: &[u32], count: usize, x: &[u8], at
             Compared::Other(past)
         }
         KeyText::Name { number, past } => {
-            let n = name_of(list, number);
-            if same(text_of(list, n.start, n.len), x) {
+            if number == named {
                 return Compared::Same(past);
             }
             Compared::Other(past)
@@ -60,12 +69,14 @@ fn look_at(
     keys: &[u32],
     count: usize,
     x: &[u8],
+    named: usize,
     at: usize,
     later: usize,
 ) -> Look
+    requires { ⌜ Named (now list) (now x) named ⌝ }
     ensures { λ r. ⌜ Looks (now (doc .entry)) (now (list .entry)) (now (keys .entry)) count (now (x .entry)) later at r ⌝ }
 {
-    let k = compare_key(doc, list, keys, count, x, at);
+    let k = compare_key(doc, list, keys, count, x, named, at);
     match k {
         Compared::Refused(r) => Look::Refused(r),
         Compared::Same(past) => Look::Here(past),
@@ -89,15 +100,17 @@ pub(crate) fn find(
     keys: &[u32],
     count: usize,
     x: &[u8],
+    named: usize,
     n: usize,
     first: usize,
 ) -> Found
+    requires { ⌜ Named (now list) (now x) named ⌝ }
     ensures { λ r. ⌜ toldFound r ≡ ask (findIn (now (doc .entry)) (now (list .entry)) (now (keys .entry)) count (now (x .entry)) n first) ⌝ }
 {
     let mut at = first;
     let mut left = n;
     while 0 < left {
-        let l = look_at(doc, list, keys, count, x, at, left - 1);
+        let l = look_at(doc, list, keys, count, x, named, at, left - 1);
         match l {
             Look::Here(p) => {
                 return Found::At(p);

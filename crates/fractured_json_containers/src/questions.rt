@@ -11,6 +11,7 @@ use fractured_json_answers::Found;
 use fractured_json_answers::Key;
 use fractured_json_answers::Member;
 use fractured_json_answers::Place;
+use fractured_json_list::names::find_name;
 use fractured_json_list::names::name_of;
 use fractured_json_scalars::enter::open_question;
 use fractured_json_scalars::enter::wanted;
@@ -133,7 +134,10 @@ pub fn first_member(
     let n = wanted(doc, list, at, OBJECT);
     match n {
         Numeral::Refused(r) => Found::Refused(r),
-        Numeral::Is { number, past } => find(doc, list, keys, count, x, number, past),
+        Numeral::Is { number, past } => {
+            let named = find_name(list, x);
+            find(doc, list, keys, count, x, named, number, past)
+        }
     }
 }
 

@@ -1,4 +1,5 @@
 pub mod NameLaws
+pub mod FindLaws
 pub mod PassLaws
 pub mod Alike
 pub mod CheckLaws

@@ -1,8 +1,12 @@
-// How many names a key list has, and where name j stands: meant for good lists, and total. A byte past the end counts as 0.
+// How many names a key list has, where name j stands, and which name has a text: meant for good lists, and total. A byte past the end
+// counts as 0.
+use fractured_json_values::texts::text_of;
+use text::same;
 ghost use mathlib.Core.Path.{_≡_};
 ghost use Prim.Native.Nat.{_<_};
 ghost use Rattle.json.specs.Bytes.{number};
 ghost use Rattle.fractured_json_rules.specs.KeyList.{countIn, nameOf};
+ghost use Rattle.fractured_json_list.specs.Finding.{namedFrom};
 
 // The 16-bit number at a place.
 pub(crate) fn number_at(list: &[u8], at: usize) -> usize
@@ -46,4 +50,22 @@ pub fn name_of(list: &[u8], j: usize) -> Name
         start: at + 2,
         len: number_at(list, at),
     }
+}
+
+// The number of the first name with the text `x`, or the count where none has it.
+pub fn find_name(list: &[u8], x: &[u8]) -> usize
+    ensures { λ r. ⌜ r ≡ namedFrom (now (list .entry)) (now (x .entry)) (countIn (now (list .entry))) 3 0 ⌝ }
+{
+    let n = count_of(list);
+    let mut at = 3;
+    let mut j = 0;
+    while j < n {
+        let len = number_at(list, at);
+        if same(text_of(list, at + 2, len), x) {
+            return j;
+        }
+        at = at + 2 + len;
+        j += 1;
+    }
+    j
 }

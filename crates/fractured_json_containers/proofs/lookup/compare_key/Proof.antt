@@ -23,15 +23,6 @@ returns c = search compare-laws
 enum-known-k-3 : tie.Need-enum-known-k-3
 enum-known-k-3 c = search compare-laws
 
-name-of-requires : tie.Need-name-of-requires
-name-of-requires c κs = search compare-laws
-
-text-of-requires-2 : tie.Need-text-of-requires-2
-text-of-requires-2 c κs = search compare-laws
-
-same-requires-2 : tie.Need-same-requires-2
-same-requires-2 c κs = search compare-laws
-
 returns-2 : tie.Need-returns-2
 returns-2 c = search compare-laws
 
@@ -55,9 +46,6 @@ compare-key-spec =
     same-requires
     returns
     enum-known-k-3
-    name-of-requires
-    text-of-requires-2
-    same-requires-2
     returns-2
     returns-3
     returns-4

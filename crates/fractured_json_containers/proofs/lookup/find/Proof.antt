@@ -1,19 +1,16 @@
-use Rattle.fractured_json_containers.proofs.LookupLaws.{find-laws}
 -- `find`: what the members say from here on is what they say from the first on.
 use mathlib.Core.Path.{_≡_}
 use Rattle.json.specs.Reading.{ask}
 use Rattle.fractured_json_rules.specs.Questions.{findIn}
+use Rattle.fractured_json_containers.proofs.LookupLaws.{find-laws}
 use Rattle.fractured_json_containers.proofs.lookup.find.Statement.{statement}
 use Rattle.fractured_json_containers.proofs.lookup.find.Tie as tie
-use Rattle.fractured_json_containers.proofs.lookup.find.Reads as reads
-use Rattle.fractured_json_containers.proofs.lookup.find.Lts as lts
-use Rattle.fractured_json_containers.proofs.lookup.look_at.Reads as look-at-reads
 
 abbrev Inv-loop : tie.InvT-loop
-Inv-loop doc list keys count x n first at₀ left₀ at left = ask (findIn doc list keys count x left at) ≡ ask (findIn doc list keys count x n first)
+Inv-loop doc list keys count x named n first at₀ left₀ at left = ask (findIn doc list keys count x left at) ≡ ask (findIn doc list keys count x n first)
 
 abbrev μ-loop : tie.MeasureT-loop
-μ-loop doc list keys count x n first at₀ left₀ at left = left
+μ-loop doc list keys count x named n first at₀ left₀ at left = left
 
 loop-holds : tie.Need-loop-holds Inv-loop μ-loop
 loop-holds c = search find-laws
