@@ -1,4 +1,4 @@
--- The check of the list and the room for its names: one law for each way through `check_list` and the functions of start.rt.
+-- The check of the list and the room for its names: one law for each way through `check_list` and the functions of room.rt.
 use mathlib.Core.Path.{_≡_, sym, _∙_}
 use mathlib.Core.List.{List, []}
 use Prim.Native.Nat.{ℕ, _/_, _≤_, _<_, min}
