@@ -1,8 +1,8 @@
 -- The questions put to a Fractured JSON document with a key list, fixed for all bytes, cursors, key tables and counts: document
--- 01, section "Questions", and document 02, request L1. Each applies 51 to 54, 31 to 34, then 20 for a cursor under 3. Each reads only what it needs, in this order: type byte
--- (35, 36), 21 for the wrong kind, length or payload (35, 43; kind reads no payload or text), 22 for an index past the end,
--- then the values before the one sought, walked whole, and every key up to it; for the end, all of them. The value sought
--- is not read. 20, 21 and 22 stand at the cursor.
+-- 01, section "Questions", and document 02, request L1. Each applies 51 to 54, 31 to 34, then 20 for a cursor under 3. Each reads
+-- only what it needs, in this order: type byte (35, 36), 21 for the wrong kind, length or payload (35, 43; kind reads no payload
+-- or text), 22 for an index past the end, then the values before the one sought, walked whole, and every key up to it; for the
+-- end, all of them. The value sought is not read. 20, 21 and 22 stand at the cursor.
 use Prim.Native.Nat.{ℕ, zero, suc, _+_, _-_, _*_, _^_}
 use mathlib.Core.Bool.{Bool, true, false}
 use mathlib.Core.List.{List, []}
