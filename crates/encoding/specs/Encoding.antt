@@ -95,11 +95,12 @@ abbrev pub valueAt : Fractured.Found → List ℕ
 valueAt (Fractured.valueAt o) = 1 ∷ o ∷ []
 valueAt Fractured.absent = 0 ∷ []
 
--- lender (0 the document, 1 the key list), the text's place and length there, and where the value starts
+-- 0 the document, 1 the key list
 abbrev pub lenderOf : Fractured.Lender → ℕ
 lenderOf Fractured.theDocument = 0
 lenderOf Fractured.theList = 1
 
+-- lender, the text's place and length there, and where the value starts
 abbrev pub keyAt : Fractured.KeyRead → List ℕ
 keyAt k = lenderOf (k .lender) ∷ k .place ∷ k .len ∷ k .past ∷ []
 

@@ -244,10 +244,26 @@ module _ (doc list : List ℕ) (c n p : ℕ) where
     pub key-text-refused : (r : List ℕ) → r ≡ keyBytes doc list words count c → ask (keyAt doc list words count c) ≡ refuses n p → r ≡ []
     key-text-refused r e h = e ∙ rw h
 
+    -- a text that is answered lies inside the bytes of its lender
+    pub key-inside-document : (r : Key) → toldKey r ≡ ask (keyAt doc list words count c) → (place len past : ℕ) → r ≡ Key.Document place len past → place + len ≤ length doc
+    key-inside-document r e place len past q = Rules.key-inside doc list words count (record { lender = theDocument; place = place; len = len; past = past }) c (sym e ∙ ap toldKey q)
+
+    pub key-inside-list : (r : Key) → toldKey r ≡ ask (keyAt doc list words count c) → (place len past : ℕ) → r ≡ Key.List place len past → place + len ≤ length list
+    key-inside-list r e place len past q = Rules.key-inside doc list words count (record { lender = theList; place = place; len = len; past = past }) c (sym e ∙ ap toldKey q)
+
     -- the text is a part of the bytes of the lender that `key` names
     pub key-text-lent : (k : KeyRead) (r : Key) → toldKey r ≡ ask (keyAt doc list words count c) → r ≡ keyCase k → (t : List ℕ) → t ≡ keyBytes doc list words count c
         → t ≡ part (lent doc list (k .lender)) (k .place) (k .len)
     key-text-lent k r e q t h = h ∙ rw (sym e ∙ (ap toldKey q ∙ told-case k))
+
+-- ---- A key that the rule answers with a text and an end (the key of a member, by `member-told`): so do `key` and `key_text`.
+
+module _ (doc list words : List ℕ) (count c : ℕ) (x : List ℕ) (past : ℕ) (a : KeyAnswer doc list x past (ask (keyAt doc list words count c))) where
+  pub key-told : (r : Key) → toldKey r ≡ ask (keyAt doc list words count c) → r ≡ keyCase (a .read)
+  key-told r e = sym (key-is r) ∙ ap keyIs (e ∙ a .answered)
+
+  pub key-text-told : (r : List ℕ) → r ≡ keyBytes doc list words count c → r ≡ x
+  key-text-told r e = e ∙ Rules.key-bytes doc list words count c x past a
 
 -- ---- Demand 2: every question put to a node that the root leads to is answered from the tree; the questions that go by keys,
 -- with the very words and count that `check` left.
@@ -321,13 +337,6 @@ module _ (doc list : List ℕ) (t : Tree) (m : Means doc list t) (words : List �
         a .stands,
         a .is-member,
       )
-
-  -- and so `key` and `key_text` say, asked at that key byte
-  pub key-told : (c : ℕ) (x : List ℕ) (p : ℕ) → (a : KeyAnswer doc list x p (ask (keyAt doc list after count c))) → (r : Key) → toldKey r ≡ ask (keyAt doc list after count c) → r ≡ keyCase (a .read)
-  key-told c x p a r e = sym (key-is r) ∙ ap keyIs (e ∙ a .answered)
-
-  pub key-text-told : (c : ℕ) (x : List ℕ) (p : ℕ) → KeyAnswer doc list x p (ask (keyAt doc list after count c)) → (r : List ℕ) → r ≡ keyBytes doc list after count c → r ≡ x
-  key-text-told c x p a r e = e ∙ Rules.key-bytes doc list after count c x p a
 
   pub member-told-past : (ms : Members) (j : ℕ) → StandsFor doc (m .names) (m .keys) o (obj ms) → sizem ms ≤ j → (r : Member) → toldMember r ≡ ask (memberAt doc list after count o j)
       → r ≡ Member.Refused (refusal 22 o)

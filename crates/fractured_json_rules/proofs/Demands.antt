@@ -5,24 +5,25 @@ use mathlib.Core.List.{List, []}
 use mathlib.Core.Logic.{_↔_}
 use mathlib.Core.Path.{_≡_, refl, sym, ap, _∙_, subst}
 use native.Mathlib.Omega.{arith}
-use lib.Dec.{eqb-refl, lt→ltb, ltb→lt}
+use lib.Dec.{eqb-refl, leb→le, lt→ltb, ltb→lt}
 use lib.ListN.{length, getD}
 use Rattle.json.specs.Bytes.{Bytes, number, part}
 use Rattle.json.specs.Limits.{deepest, mostKeys}
 use Rattle.json.specs.Reading.{Outcome, halt, done, Asked, ask, answers, refuses}
 use Rattle.json.specs.Tree.{Tree, num, str, arr, obj, Trees, Members, size, sizem, depth, ElementIs, MemberIs, Lacks, NoNumber, NoString, NoArray, NoObject, Subtree}
-use Rattle.json.proofs.Reading.{past, then, stops, pass, fail, need-yes}
+use Rattle.json.proofs.Reading.{halt≢done, done-answer, past, step, passed, then, stops, pass, fail, need-yes}
 use Rattle.json.proofs.Tree.{element-at, member-at, member-below, subtree-depth}
+use Rattle.fractured_json_rules.specs.ByteTables.{KeyForm, immediate, backReference, globalIndex, kReserved}
 use Rattle.fractured_json_rules.specs.Meaning.{Names, Lists, noKey, Keys, afterLength, Means}
-use Rattle.fractured_json_rules.specs.Verdict.{Numeral, listedKey, checkKey, document, check, verdict, keysOf}
+use Rattle.fractured_json_rules.specs.Verdict.{Numeral, numeral, keyBy, listedKey, checkKey, document, check, verdict, keysOf}
 use Rattle.fractured_json_rules.specs.KeyList.{countIn, keyList, noNames, nameOf}
 use Rattle.fractured_json_rules.specs.KeyTable.{roomOf, keyOf, checked}
 use Rattle.fractured_json_rules.specs.TreeOf.{treeOf, lengthIn, keyEnd}
 use Rattle.fractured_json_rules.specs.Leads.{elementPlace, keyPlace, Leads, element, value, StandsFor}
-use Rattle.fractured_json_rules.specs.Questions.{opening, theList, nameKey, passKey, endOf, kind, numberAt, stringAt, stringBytes, elementFrom, elementAt, MemberAt}
+use Rattle.fractured_json_rules.specs.Questions.{opening, typeAt, theList, KeyRead, lent, textKey, backKey, nameKey, readKey, Wanted, aString, anObject, anArray, wantedAt, passKey, endOf, kind, numberAt, stringAt, stringBytes, elementFrom, elementAt, MemberAt}
 use Rattle.fractured_json_rules.specs.Questions.{memberFrom, memberAt, Found, valueAt, absent, firstMember, keyAt, keyBytes}
 use Rattle.fractured_json_rules.specs.Answers.{kindOf, valueOf}
-use Rattle.fractured_json_rules.proofs.KeyList.{list-is}
+use Rattle.fractured_json_rules.proofs.KeyList.{list-step, list-is, name-is}
 use Rattle.fractured_json_rules.proofs.Sound.{sound}
 use Rattle.fractured_json_rules.proofs.Complete.{key-passes}
 use Rattle.fractured_json_rules.proofs.Keys.{first-all, first-trans, first-length, grows, keys-inside}
@@ -30,7 +31,7 @@ use Rattle.fractured_json_rules.proofs.KeyTable.{passed-room, room-word
 use Rattle.fractured_json_rules.proofs.Trees.{length-in, tree-at}
 use Rattle.fractured_json_rules.proofs.Nodes as Nodes
 use Rattle.fractured_json_rules.proofs.Nodes.{element-node, member-node, member-value}
-use Rattle.fractured_json_rules.proofs.Readers.{header-is}
+use Rattle.fractured_json_rules.proofs.Readers.{header-is, byte-step, text-step, key-number-step}
 use Rattle.fractured_json_rules.proofs.Walk.{walks}
 use Rattle.fractured_json_rules.proofs.Answers.{Holds, KeyAnswer, reads-key, walks-value, walks-to-element, walks-to-member, Lookup, hit, miss, finds}
 use Rattle.fractured_json_rules.proofs.Questions.{opening-is, asked, kind-is, number-is, string-is, no-number, no-string, no-array, no-object, array-length, object-length}
@@ -67,11 +68,87 @@ one-tree doc list t u m n =
     let room = length (m .keys) + length (n .keys) in
     sym (tree-of room doc list t m (omega arith)) ∙ tree-of room doc list u n (omega arith)
 
--- ---- A bad key list refuses every question with its own number and place: each begins with `opening`.
+-- ---- A bad key list refuses every question with its own number and place.
 
-pub bad-list-opening : (doc list : List ℕ) (c n p : ℕ) → ask (keyList list) ≡ refuses n p → ask (opening doc list c) ≡ refuses n p
-unfolding opening
-bad-list-opening doc list c n p e = stops _ _ tt e
+module _ (doc list : List ℕ) (c n p : ℕ) (e : ask (keyList list) ≡ refuses n p) where
+  bad-opening : ask (opening doc list c) ≡ refuses n p
+  unfolding opening
+  bad-opening = stops _ _ tt e
+
+  bad-type : ask (typeAt doc list c) ≡ refuses n p
+  unfolding typeAt
+  bad-type = stops _ _ tt bad-opening
+
+  bad-wanted : (want : Wanted) → ask (wantedAt doc list c want) ≡ refuses n p
+  unfolding wantedAt
+  bad-wanted want = stops _ _ tt bad-type
+
+  pub bad-list-kind : ask (kind doc list c) ≡ refuses n p
+  unfolding kind
+  bad-list-kind = stops _ _ tt bad-type
+
+  pub bad-list-number : ask (numberAt doc list c) ≡ refuses n p
+  unfolding numberAt
+  bad-list-number = stops _ _ tt bad-type
+
+  pub bad-list-string : (ask (stringAt doc list c) ≡ refuses n p) × (stringBytes doc list c ≡ [])
+  unfolding stringAt
+  bad-list-string = let r = stops _ _ tt (bad-wanted aString) in (r, rw r)
+
+  module _ (words : List ℕ) (count : ℕ) where
+    pub bad-list-end : ask (endOf doc list words count c) ≡ refuses n p
+    unfolding endOf
+    bad-list-end = stops _ _ tt bad-opening
+
+    pub bad-list-element : (i : ℕ) → ask (elementAt doc list words count c i) ≡ refuses n p
+    unfolding elementAt
+    bad-list-element i = stops _ _ tt (bad-wanted anArray)
+
+    pub bad-list-member : (j : ℕ) → ask (memberAt doc list words count c j) ≡ refuses n p
+    unfolding memberAt
+    bad-list-member j = stops _ _ tt (bad-wanted anObject)
+
+    pub bad-list-first-member : (x : List ℕ) → ask (firstMember doc list words count c x) ≡ refuses n p
+    unfolding firstMember
+    bad-list-first-member x = stops _ _ tt (bad-wanted anObject)
+
+    pub bad-list-key : (ask (keyAt doc list words count c) ≡ refuses n p) × (keyBytes doc list words count c ≡ [])
+    unfolding keyAt
+    bad-list-key = let r = stops _ _ tt bad-opening in (r, rw r)
+
+-- ---- A key that is answered lies inside the bytes of its lender, in documents that nobody has checked too.
+
+module _ (doc list words : List ℕ) (count : ℕ) (k : KeyRead) where
+  abbrev KeyInside : KeyRead → Type 0
+  KeyInside r = r .place + r .len ≤ length (lent doc list (r .lender))
+
+  inside-by : (names : Names) → Lists list names → (o : ℕ) (f : KeyForm) → ask (keyBy doc o (textKey doc o) (backKey doc words count o) (nameKey list o) f) ≡ answers k → KeyInside k
+  unfolding keyBy textKey backKey nameKey
+  inside-by names l o (immediate x) e =
+      let (n, b, ix, e0) = key-number-step doc o x _ tt e in
+      let (fits, e1) = text-step doc o (numeral n b) _ tt e0 in
+      subst KeyInside (done-answer e1) fits
+  inside-by names l o (backReference x) e =
+      let (n, b, ix, e0) = key-number-step doc o x _ tt e in
+      let s1 = passed _ _ _ _ tt e0 in
+      let s2 = passed _ _ _ _ tt (s1 .rest) in
+      let s3 = passed _ _ _ _ tt (s2 .rest) in
+      subst KeyInside (done-answer (s3 .rest)) (leb→le _ _ (s3 .test))
+  inside-by names l o (globalIndex x) e =
+      let (n, b, ix, e0) = key-number-step doc o x _ tt e in
+      let s1 = passed _ _ _ _ tt e0 in
+      let c = l .count in
+      let under = ltb→lt n (countIn list) (s1 .test) in
+      subst KeyInside (done-answer (s1 .rest)) (name-is list names l n (omega arith) .1)
+  inside-by names l o kReserved e = absurd (halt≢done e)
+
+  pub key-inside : (c : ℕ) → ask (keyAt doc list words count c) ≡ answers k → k .place + k .len ≤ length (lent doc list (k .lender))
+  unfolding keyAt opening readKey
+  key-inside c e =
+      let s = step _ _ tt e in
+      let ((names, l), rest) = list-step list _ tt (s .first) in
+      let (i, e1) = byte-step doc c c _ tt (s .rest) in
+      inside-by names l c _ e1
 
 -- ---- 38 for a global index is given exactly if the index is not under the count; so a key list of count 0 means what no list
 -- meant. In the check, and in the questions.

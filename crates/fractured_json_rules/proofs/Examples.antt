@@ -165,10 +165,12 @@ examples =
     -- 38: a global index is found under the count, in all three spellings
     listed twoNames (hex 6 0x464A016FAC00) 4 accepted [] ∷
     listed twoNames (hex 7 0x464A016F020100) 4 accepted [] ∷
+    listed twoNames (hex 8 0x464A016F02810000) 4 accepted [] ∷
     listed twoNames (hex 8 0x464A016F02818000) 4 (refuses 35 8) [] ∷
     listed twoNames (hex 9 0x464A016F0281800000) 4 accepted [] ∷
     listed twoNames (hex 6 0x464A016FAD00) 4 (refuses 38 4) [] ∷
     listed twoNames (hex 7 0x464A016F020200) 4 (refuses 38 4) [] ∷
+    listed twoNames (hex 8 0x464A016F02820000) 4 (refuses 38 4) [] ∷
     listed twoNames (hex 9 0x464A016F0282800000) 4 (refuses 38 4) [] ∷
     -- 39: immediate texts alone; a global index takes no number and no pair
     listed twoNames (hex 7 0x464A016F046100) 4 accepted (5 ∷ 1 ∷ []) ∷
@@ -382,6 +384,8 @@ lines =
     line (hex 9 0x464A01700461005701) (5 ∷ 1 ∷ []) 1 (keyBytesAt 7) (bytesAre (97 ∷ [])) ∷
     line (hex 9 0x464A01700461005701) (5 ∷ 1 ∷ []) 0 (keyAt 7) (refused 38 7) ∷
     line (hex 9 0x464A01700461005701) (5 ∷ 1 ∷ []) 0 (keyBytesAt 7) (bytesAre []) ∷
+    -- without 39 and 40
+    line (hex 10 0x464A0170046100046101) [] 0 (keyAt 7) (inDocument 8 1 9) ∷
     lineWith twoNames (hex 6 0x464A016FAC00) [] 0 (keyAt 4) (inList 8 1 5) ∷
     lineWith twoNames (hex 9 0x464A016F0281800000) [] 0 (keyAt 4) (inList 8 1 8) ∷
     lineWith twoNames (hex 6 0x464A016FAC00) [] 0 (keyBytesAt 4) (bytesAre (98 ∷ [])) ∷

@@ -98,7 +98,7 @@ abbrev pub KeyNumberIs : List ℕ → ℕ → KeyNumber → ℕ → ℕ → Type
 KeyNumberIs doc o (inByte k) n e = (n ≡ k) × (e ≡ o + 1)
 KeyNumberIs doc o spelled n e = Spelled doc o n e
 
--- an immediate key: the start and the length of its text
+-- a text by its start and its length: of an immediate key in the document, or of a name in the key list
 pub record Key : Type 0 where
   pub start : ℕ
   pub len : ℕ

@@ -1,8 +1,8 @@
--- The questions put to a Fractured JSON document with a key list, fixed for all bytes, cursors, key tables and counts: document
--- 01, section "Questions", and document 02, request L1. Each applies 51 to 54, 31 to 34, then 20 for a cursor under 3. Each reads
--- only what it needs, in this order: type byte (35, 36), 21 for the wrong kind, length or payload (35, 43; kind reads no payload
--- or text), 22 for an index past the end, then the values before the one sought, walked whole, and every key up to it; for the
--- end, all of them. The value sought is not read. 20, 21 and 22 stand at the cursor.
+-- The questions put to a Fractured JSON document with a key list, fixed for all bytes, cursors, key lists, key tables and counts:
+-- document 01, section "Questions", and document 02, request L1. Each applies 51 to 54, 31 to 34, then 20 for a cursor under 3. Each
+-- reads only what it needs, in this order: type byte (35, 36), 21 for the wrong kind, length or payload (35, 43; kind reads no
+-- payload or text), 22 for an index past the end, then the values before the one sought, walked whole, and every key up to it;
+-- for the end, all of them. The value sought is not read. 20, 21 and 22 stand at the cursor.
 use Prim.Native.Nat.{ℕ, zero, suc, _+_, _-_, _*_, _^_}
 use mathlib.Core.Bool.{Bool, true, false}
 use mathlib.Core.List.{List, []}
@@ -40,18 +40,19 @@ typeAt doc list c = do
 pub data Lender : Type 0 where
   theDocument theList : Lender
 
--- where a key's text stands and how long it is, and where the key ends
+-- who lent a key's text, where it stands there, how long it is, and where the key ends
 pub record KeyRead : Type 0 where
   pub lender : Lender
   pub place : ℕ
   pub len : ℕ
   pub past : ℕ
 
--- the text itself
+-- the bytes of a lender
 abbrev pub lent : List ℕ → List ℕ → Lender → List ℕ
 lent doc list theDocument = doc
 lent doc list theList = list
 
+-- the text itself
 abbrev pub textIn : List ℕ → List ℕ → KeyRead → List ℕ
 textIn doc list k = part (lent doc list (k .lender)) (k .place) (k .len)
 
@@ -257,7 +258,8 @@ firstMember doc list words count c x = do
   n ← wantedAt doc list c anObject
   findIn doc list words count x (n .is) (n .past)
 
--- ---- a key at its key byte, both ways: who lent its text, where that stands, how long it is, and where the key ends
+-- ---- a key at its key byte, both ways; refusals in 01's key order, without 39 and 40: 35, 36, v_uint16 byte by byte, text 35,
+-- or 38
 
 unfoldable pub keyAt : {S : Type 0} → List ℕ → List ℕ → List ℕ → ℕ → ℕ → Reading S KeyRead
 keyAt doc list words count c = do

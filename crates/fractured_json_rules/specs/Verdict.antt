@@ -155,22 +155,22 @@ oldKey o n = do
 
 -- a global index, with a list of so many names
 unfoldable pub listedKey : ℕ → ℕ → Numeral → Reading Keys ℕ
-listedKey names o n = do
-  need (ltb (n .is) names) 38 o
+listedKey named o n = do
+  need (ltb (n .is) named) 38 o
   answer (n .past)
 
 unfoldable pub checkKey : ℕ → List ℕ → ℕ → ℕ → Reading Keys ℕ
-checkKey room doc names o = do
+checkKey room doc named o = do
   b ← byteAt doc o o
-  keyBy doc o (newKey room doc o) (oldKey o) (listedKey names o) (keyFormOf b)
+  keyBy doc o (newKey room doc o) (oldKey o) (listedKey named o) (keyFormOf b)
 
 -- ---- the whole check
 
 -- of the document, with a list of so many names
 unfoldable pub document : ℕ → List ℕ → ℕ → Reading Keys (Unit {0})
-document room doc names = do
+document room doc named = do
   header doc
-  end ← value (checkKey room doc names) deepest doc 3
+  end ← value (checkKey room doc named) deepest doc 3
   need (eqb end (length doc)) 42 end
 
 -- of the key list, and then of the document
