@@ -1,6 +1,6 @@
 -- A key as the check reads it, one law for each way through `new_key`, `numbered` and `check_key`.
 use mathlib.Core.Path.{_≡_, refl, sym, subst, _∙_}
-use mathlib.Core.Bool.{Bool, true, false}
+use mathlib.Core.Bool.{false}
 use mathlib.Core.List.{List}
 use Prim.Native.Nat.{ℕ, _+_, _-_, _/_, _≤_, _<_}
 use native.Mathlib.Omega.{arith}
@@ -26,7 +26,8 @@ use Rattle.fractured_json_check.specs.Table.{Table, table, freshKeyIn, n
 use Rattle.fractured_json_values.specs.declared.types.KeyHead.{KeyHead}
 use Rattle.fractured_json_values.specs.declared.values.Numeral.{Numeral}
 use Rattle.fractured_json_keys.specs.Passed.{withPair}
-use Rattle.fractured_json_keys.specs.Chains.{bucketsIn, bucketOf, seenIn, linkedIn}
+use Rattle.fractured_json_keys.specs.Chains.{soughtIn, linkedIn}
+use Rattle.fractured_json_keys.proofs.ChainLaws.{sought-met, sought-fresh}
 use Rattle.fractured_json_values.proofs.KeyHeads.{past-end, head-reserved, head-numbered, number-refused, number-read}
 use Rattle.fractured_json_values.proofs.Opening.{numeral-inside}
 
@@ -37,18 +38,23 @@ module _ (doc : List ℕ) (at number past count : ℕ) (words links : List ℕ) 
   unfolding newKeyIn
   text-outside p h = sym (stops _ _ _ (text-past doc at _ _ (omega arith)))
 
-  module _ (p : past ≤ length doc) (h : number ≤ length doc - past) (b : Bool) (bs : b ≡ seenIn doc (part doc past number) words links count) where
+  module _ (p : past ≤ length doc) (h : number ≤ length doc - past) (t : List ℕ) (ts : t ≡ part doc past number) (s : ℕ)
+      (ss : s ≡ soughtIn doc t words links count) where
     inside : past + number ≤ length doc
     inside = omega arith
 
-    pub text-met : b ≡ true → halt 39 at (table count words links) ≡ newKeyIn doc at (numeral number past) (table count words links)
+    pub text-met : s ≡ 0 → halt 39 at (table count words links) ≡ newKeyIn doc at (numeral number past) (table count words links)
     unfolding newKeyIn
-    text-met e = sym (then _ _ _ (text-is doc at _ _ inside) ∙ (kept-is _ _ ∙ fail _ _ _ _ _ (rw (← bs, e) (λ t. t))))
+    text-met q =
+        let w = sought-met doc (part doc past number) words links count s (rw ts at ss) q in
+        sym (then _ _ _ (text-is doc at _ _ inside) ∙ (kept-is _ _ ∙ fail _ _ _ _ _ (rw w (λ t. t))))
 
-    pub text-fresh : b ≡ false → (k : ℕ) (r : Outcome Table ℕ) → k ≡ bucketOf (part doc past number) (bucketsIn links) → r ≡ freshKeyIn k at (numeral number past) (table count words links)
+    pub text-fresh : (s ≡ 0 → ⊥) → (r : Outcome Table ℕ) → r ≡ freshKeyIn (s - 1) at (numeral number past) (table count words links)
         → r ≡ newKeyIn doc at (numeral number past) (table count words links)
     unfolding newKeyIn
-    text-fresh f k r q e = rw q at e ∙ sym (then _ _ _ (text-is doc at _ _ inside) ∙ (kept-is _ _ ∙ pass _ _ _ _ _ (rw (← bs, f) tt)))
+    text-fresh f r e =
+        let w = sought-fresh doc (part doc past number) words links count s (rw ts at ss) f in
+        rw (w .1) at e ∙ sym (then _ _ _ (text-is doc at _ _ inside) ∙ (kept-is _ _ ∙ pass _ _ _ _ _ (rw (w .0) tt)))
 
 pub ruleset new-laws = (text-outside, text-met, text-fresh, needs)
 

@@ -1,11 +1,11 @@
 // A key as the check reads it: an immediate key has its pair in the lent table, and its number, before its value is read.
 use crate::walk::Walk;
-use fractured_json_keys::chains::bucket_of;
 use fractured_json_keys::chains::link;
-use fractured_json_keys::chains::was_met;
+use fractured_json_keys::chains::seek;
 use fractured_json_keys::pairs::store;
 use fractured_json_values::key_number::key_number_at;
 use fractured_json_values::texts::room_of;
+use fractured_json_values::texts::text_of;
 use fractured_json_values::types::key_head;
 use fractured_json_values::values::Numeral;
 use json::Refusal;
@@ -70,8 +70,8 @@ fn new_key(
             },
         };
     }
-    let b = bucket_of(doc, links, past, number);
-    if was_met(doc, keys, links, count, b, past, number) {
+    let s = seek(doc, keys, links, count, text_of(doc, past, number));
+    if s == 0 {
         return Walk::Refused {
             count,
             refusal: Refusal {
@@ -80,7 +80,7 @@ fn new_key(
             },
         };
     }
-    fresh_key(keys, links, b, count, at, number, past)
+    fresh_key(keys, links, s - 1, count, at, number, past)
 }
 
 // A key by its kind, once the number that it carries has been read.

@@ -1,5 +1,5 @@
 -- One law for each way through the functions of chains.rt.
-use mathlib.Core.Path.{_≡_, sym}
+use mathlib.Core.Path.{_≡_, refl, sym}
 use mathlib.Core.Bool.{Bool, true, false}
 use mathlib.Core.List.{List}
 use Prim.Native.Nat.{ℕ, suc, _+_, _-_, _*_, _/_, _^_, _≤_, _<_}
@@ -17,7 +17,8 @@ use Rattle.text.specs.Hash.{hashOf}
 use Rattle.text.proofs.Hashing.{hash-small}
 use Rattle.fractured_json_rules.specs.KeyList.{met}
 use Rattle.fractured_json_keys.specs.Passed.{keysIn}
-use Rattle.fractured_json_keys.specs.Chains.{mostLinks, bucketsIn, bucketOf, followed, seenIn, linkedIn}
+use Rattle.fractured_json_keys.specs.Chains.{mostLinks, bucketsIn, bucketOf, followed, seenIn, soughtIn, linkedIn}
+use Rattle.fractured_json_keys.proofs.Chained.{bucket-below}
 
 -- ---- buckets
 
@@ -30,20 +31,6 @@ unfolding bucketsIn
 buckets-most links h = omega arith
 
 pub ruleset buckets-laws = (buckets-half, buckets-most, needs)
-
-module _ (t x : List ℕ) (h n : ℕ) (e : h ≡ hashOf x) (same : x ≡ t) where
-  pub product-fits : n ≤ mostLinks → Fits w64 (h * n)
-  product-fits l =
-      let s = hash-small x in
-      let b : h ≤ 4_294_967_296 = omega arith in
-      let p : h * n ≤ 4_294_967_296 * mostLinks = mul-le-mul b l in
-      record { fits = omega arith }
-
-  pub bucket-is : (links : List ℕ) → n ≡ bucketsIn links → h * n / 4_294_967_296 ≡ bucketOf t (bucketsIn links)
-  unfolding bucketOf
-  bucket-is links q = rw (e, q, same)
-
-pub ruleset bucket-laws = (product-fits, bucket-is, needs)
 
 -- ---- an item at a place, 0 past the end
 
@@ -101,19 +88,76 @@ chain-begins doc t words links first n e = rw e
 
 pub ruleset follow-laws = (chain-begins, no-more, chain-ends, key-found, key-passed, needs)
 
--- ---- rule 39's test
+-- ---- a text sought
 
-module _ (doc t x words links : List ℕ) (same : x ≡ t) (count n : ℕ) (e : n ≡ bucketsIn links) where
-  pub by-chain : count < n → (b link : ℕ) (r : Bool) → b ≡ bucketOf t (bucketsIn links) → link ≡ getD links b 0 → r ≡ followed doc x words links (bucketsIn links) link
-      → r ≡ seenIn doc t words links count
-  unfolding seenIn choose
-  by-chain h b link r p q k = let l : count < bucketsIn links = omega arith in rw (lt-ltb count (bucketsIn links) l) (rw (q, p, same) at k)
+module _ (t links : List ℕ) (n : ℕ) (e : n ≡ bucketsIn links) (h : ℕ) (hs : h ≡ hashOf t) where
+  pub product-fits : n ≤ mostLinks → Fits w64 (h * n)
+  product-fits l =
+      let s = hash-small t in
+      let b : h ≤ 4_294_967_296 = omega arith in
+      let p : h * n ≤ 4_294_967_296 * mostLinks = mul-le-mul b l in
+      record { fits = omega arith }
 
-  pub by-scan : n ≤ count → (r : Bool) → r ≡ met doc x (keysIn words count) → r ≡ seenIn doc t words links count
-  unfolding seenIn choose
-  by-scan h r k = let l : bucketsIn links ≤ count = omega arith in rw (le-ltb count (bucketsIn links) l) (rw same at k)
+  pub answer-fits : n ≤ mostLinks → Fits w64 (h * n / 4_294_967_296 + 1)
+  answer-fits l = let p = product-fits l .fits in record { fits = omega arith }
 
-pub ruleset met-before-laws = (by-chain, by-scan, needs)
+  bucket-is : h * n / 4_294_967_296 ≡ bucketOf t (bucketsIn links)
+  unfolding bucketOf
+  bucket-is = rw (hs, e)
+
+  pub bucket-inside : (count : ℕ) → count < n → 2 * n ≤ length links → h * n / 4_294_967_296 < length links
+  bucket-inside count l k = let b = bucket-below t (bucketsIn links) (omega arith) in rw bucket-is (omega arith)
+
+  module _ (doc words : List ℕ) (count : ℕ) where
+    module _ (l : count < n) (r : Bool) (rs : r ≡ followed doc t words links (bucketsIn links) (getD links (h * n / 4_294_967_296) 0)) where
+      by-chain : seenIn doc t words links count ≡ r
+      unfolding seenIn choose
+      by-chain = let m : count < bucketsIn links = omega arith in rw (lt-ltb count (bucketsIn links) m) (sym (rw bucket-is at rs))
+
+      pub chain-met : r ≡ true → 0 ≡ soughtIn doc t words links count
+      unfolding soughtIn choose
+      chain-met q = rw (by-chain, q)
+
+      pub chain-fresh : r ≡ false → h * n / 4_294_967_296 + 1 ≡ soughtIn doc t words links count
+      unfolding soughtIn choose
+      chain-fresh q = rw (by-chain, q, bucket-is)
+
+    module _ (l : n ≤ count) (r : Bool) (rs : r ≡ met doc t (keysIn words count)) where
+      by-scan : seenIn doc t words links count ≡ r
+      unfolding seenIn choose
+      by-scan = let m : bucketsIn links ≤ count = omega arith in rw (le-ltb count (bucketsIn links) m) (sym rs)
+
+      pub scan-met : r ≡ true → 0 ≡ soughtIn doc t words links count
+      unfolding soughtIn choose
+      scan-met q = rw (by-scan, q)
+
+      pub scan-fresh : r ≡ false → h * n / 4_294_967_296 + 1 ≡ soughtIn doc t words links count
+      unfolding soughtIn choose
+      scan-fresh q = rw (by-scan, q, bucket-is)
+
+pub ruleset seek-laws = (product-fits, answer-fits, bucket-inside, link-small, link-fits, chain-met, chain-fresh, scan-met, scan-fresh, needs)
+
+-- what an answer says
+module _ (doc t words links : List ℕ) (count s : ℕ) (e : s ≡ soughtIn doc t words links count) where
+  says : (b : Bool) → seenIn doc t words links count ≡ b → s ≡ choose b 0 (bucketOf t (bucketsIn links) + 1)
+  unfolding soughtIn
+  says b q = rw q at e
+
+  pub sought-met : s ≡ 0 → seenIn doc t words links count ≡ true
+  unfolding choose
+  sought-met z = go (seenIn doc t words links count) refl
+    where
+      go : (b : Bool) → seenIn doc t words links count ≡ b → seenIn doc t words links count ≡ true
+      go true q = q
+      go false q = let w = says false q in absurd (omega arith)
+
+  pub sought-fresh : (s ≡ 0 → ⊥) → (seenIn doc t words links count ≡ false) × (s - 1 ≡ bucketOf t (bucketsIn links))
+  unfolding choose
+  sought-fresh f = go (seenIn doc t words links count) refl
+    where
+      go : (b : Bool) → seenIn doc t words links count ≡ b → (seenIn doc t words links count ≡ false) × (s - 1 ≡ bucketOf t (bucketsIn links))
+      go true q = absurd (f (says true q))
+      go false q = let w = says false q in (q, omega arith)
 
 -- ---- a link more
 

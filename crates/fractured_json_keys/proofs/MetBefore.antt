@@ -1,4 +1,4 @@
--- The texts of the lent key table: one law for each way through `was_met`.
+-- The texts of the lent key table: one law for each way through `scan`.
 use mathlib.Core.Path.{_≡_}
 use mathlib.Core.Bool.{Bool, true, false}
 use mathlib.Core.List.{List}

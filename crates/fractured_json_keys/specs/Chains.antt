@@ -38,6 +38,10 @@ unfoldable pub seenIn : List ℕ → List ℕ → List ℕ → List ℕ → ℕ 
 seenIn doc t words links count =
     choose (ltb count (bucketsIn links)) (followed doc t words links (bucketsIn links) (getD links (bucketOf t (bucketsIn links)) 0)) (met doc t (keysIn words count))
 
+-- 0 for the text of a key passed, and else one more than the bucket of t
+unfoldable pub soughtIn : List ℕ → List ℕ → List ℕ → List ℕ → ℕ → ℕ
+soughtIn doc t words links count = choose (seenIn doc t words links count) 0 (bucketOf t (bucketsIn links) + 1)
+
 -- the links once key `count` has been passed, whose text falls into the bucket b; a key for which there is no link has none
 unfoldable pub linkedIn : List ℕ → ℕ → ℕ → List ℕ
 linkedIn links count b =

@@ -6,8 +6,7 @@ use text::same;
 ghost use mathlib.Core.Path.{_≡_};
 ghost use Prim.Native.Nat.{_*_, _^_, _≤_, _<_};
 ghost use lib.ListN.{length, getD};
-ghost use Rattle.json.specs.Bytes.{part};
-ghost use Rattle.fractured_json_keys.specs.Chains.{mostLinks, bucketsIn, bucketOf, followed, seenIn, linkedIn};
+ghost use Rattle.fractured_json_keys.specs.Chains.{mostLinks, bucketsIn, followed, soughtIn, linkedIn};
 
 // The most keys that are chained: a link has 16 bits, and is one more than the number of its key.
 const MOST_LINKS: usize = 65535;
@@ -21,14 +20,6 @@ fn buckets(links: &[u16]) -> usize
         return half;
     }
     MOST_LINKS
-}
-
-// The bucket of the text of `len` bytes at a place.
-pub fn bucket_of(doc: &[u8], links: &[u16], start: usize, len: usize) -> usize
-    ensures { λ r. ⌜ r ≡ bucketOf (part (now (doc .entry)) start len) (bucketsIn (now (links .entry))) ⌝ }
-{
-    let hash = text::hash::hash_of(text_of(doc, start, len)) as usize;
-    hash * buckets(links) / 4294967296
 }
 
 // The link at a place, and the word at a place of the table; 0 past the end.
@@ -50,12 +41,11 @@ fn word_at(keys: &[u32], i: usize) -> usize
     0
 }
 
-// Whether a text is that of a key on the chain that starts with a link.
-fn follow(doc: &[u8], keys: &[u32], links: &[u16], first: usize, t: &[u8]) -> bool
-    requires { ⌜ first < 2 ^ 16 ⌝ }
+// Whether a text is that of a key on the chain that starts with a link; `n` is the number of buckets.
+fn follow(doc: &[u8], keys: &[u32], links: &[u16], n: usize, first: usize, t: &[u8]) -> bool
+    requires { ⌜ (n ≡ bucketsIn (now links)) × (n ≤ mostLinks) × (first < 2 ^ 16) ⌝ }
     ensures { λ r. ⌜ r ≡ followed (now (doc .entry)) (now (t .entry)) (now (keys .entry)) (now (links .entry)) (bucketsIn (now (links .entry))) first ⌝ }
 {
-    let n = buckets(links);
     let mut next = first;
     let mut left = n;
     while 0 < left {
@@ -74,26 +64,24 @@ fn follow(doc: &[u8], keys: &[u32], links: &[u16], first: usize, t: &[u8]) -> bo
     false
 }
 
-// Rule 39's test: whether the text of `len` bytes at a place, which falls into the bucket `b`, is one of those in the table's
-// first `count` pairs.
-pub fn was_met(
-    doc: &[u8],
-    keys: &[u32],
-    links: &[u16],
-    count: usize,
-    b: usize,
-    start: usize,
-    len: usize,
-) -> bool
-    requires { ⌜ b ≡ bucketOf (part (now doc) start len) (bucketsIn (now links)) ⌝ }
-    ensures { λ r. ⌜ r ≡ seenIn (now (doc .entry)) (part (now (doc .entry)) start len) (now (keys .entry)) (now (links .entry)) count ⌝ }
+// The test of rules 39 and 54: 0 where a text is one of those in the table's first `count` pairs, and else one more than the bucket
+// that it falls into.
+pub fn seek(doc: &[u8], keys: &[u32], links: &[u16], count: usize, t: &[u8]) -> usize
+    ensures { λ r. ⌜ r ≡ soughtIn (now (doc .entry)) (now (t .entry)) (now (keys .entry)) (now (links .entry)) count ⌝ }
 {
-    let t = text_of(doc, start, len);
-    if count < buckets(links) {
-        let first = link_at(links, b);
-        return follow(doc, keys, links, first, t);
+    let n = buckets(links);
+    let b = text::hash::hash_of(t) as usize * n / 4294967296;
+    if count < n {
+        let first = links[b] as usize;
+        if follow(doc, keys, links, n, first, t) {
+            return 0;
+        }
+        return b + 1;
     }
-    scan(doc, keys, count, t)
+    if scan(doc, keys, count, t) {
+        return 0;
+    }
+    b + 1
 }
 
 // Puts key `count` at the head of the chain of its bucket.

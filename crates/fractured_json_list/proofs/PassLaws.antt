@@ -1,6 +1,5 @@
 -- The names in one pass: one law for each way through `add_name`, `fresh_name`, `pass_name`, `end_at` and `pass_names`.
 use mathlib.Core.Path.{_≡_, sym, ap, _∙_}
-use mathlib.Core.Bool.{Bool, true, false}
 use mathlib.Core.List.{List}
 use Prim.Native.Nat.{ℕ, suc, _+_, _-_, _≤_, _<_}
 use native.Mathlib.Omega.{arith}
@@ -17,7 +16,8 @@ use Rattle.json.proofs.Bytes.{number-small}
 use Rattle.json.proofs.Reading.{done-answer, passed, then, stops, pass, fail, need-yes, need-no, eq→eqb, over, unlike}
 use Rattle.fractured_json_rules.specs.KeyList.{nextName}
 use Rattle.fractured_json_keys.specs.Passed.{withPair}
-use Rattle.fractured_json_keys.specs.Chains.{bucketsIn, bucketOf, seenIn, linkedIn}
+use Rattle.fractured_json_keys.specs.Chains.{soughtIn, linkedIn}
+use Rattle.fractured_json_keys.proofs.ChainLaws.{sought-met, sought-fresh}
 use Rattle.fractured_json_list.specs.Passing.{NamePassed, namePassed, added, freshIn, nameIn, namesIn, Placed, toldStep}
 use Rattle.fractured_json_list.specs.declared.walk.Step.{Step}
 
@@ -31,15 +31,18 @@ pub ruleset added-laws = (name-added, needs)
 
 -- ---- a name whose text lies inside the list
 
-module _ (list : List ℕ) (at len j : ℕ) (words links : List ℕ) (b : Bool) (bs : b ≡ seenIn list (part list (at + 2) len) words links j) where
-  pub name-met : b ≡ true → (r : Refusal) → r .number ≡ 54 → r .place ≡ at → refuses (r .number) (r .place) ≡ ask (freshIn list at len j words links)
+module _ (list : List ℕ) (at len j : ℕ) (words links t : List ℕ) (ts : t ≡ part list (at + 2) len) (s : ℕ) (ss : s ≡ soughtIn list t words links j) where
+  pub name-met : s ≡ 0 → (r : Refusal) → r .number ≡ 54 → r .place ≡ at → refuses (r .number) (r .place) ≡ ask (freshIn list at len j words links)
   unfolding freshIn
-  name-met e r n p = rw (n, p) (sym (fail _ _ _ _ _ (rw (← bs, e) (λ t. t))))
+  name-met q r n p =
+      let w = sought-met list (part list (at + 2) len) words links j s (rw ts at ss) q in
+      rw (n, p) (sym (fail _ _ _ _ _ (rw w (λ t. t))))
 
-  pub name-fresh : b ≡ false → (k : ℕ) (p : NamePassed) → k ≡ bucketOf (part list (at + 2) len) (bucketsIn links) → p ≡ added j k (at + 2) len words links
-      → answers p ≡ ask (freshIn list at len j words links)
+  pub name-fresh : (s ≡ 0 → ⊥) → (p : NamePassed) → p ≡ added j (s - 1) (at + 2) len words links → answers p ≡ ask (freshIn list at len j words links)
   unfolding freshIn
-  name-fresh f k p q e = rw (e, q) (sym (pass _ _ _ _ _ (rw (← bs, f) tt)))
+  name-fresh f p e =
+      let w = sought-fresh list (part list (at + 2) len) words links j s (rw ts at ss) f in
+      rw (e, w .1) (sym (pass _ _ _ _ _ (rw (w .0) tt)))
 
 pub ruleset fresh-laws = (name-met, name-fresh, needs)
 

@@ -2,10 +2,10 @@
 // which rule 54 is tested.
 use crate::names::number_at;
 use crate::refusal;
-use fractured_json_keys::chains::bucket_of;
 use fractured_json_keys::chains::link;
-use fractured_json_keys::chains::was_met;
+use fractured_json_keys::chains::seek;
 use fractured_json_keys::pairs::store;
+use fractured_json_values::texts::text_of;
 use json::Refusal;
 use json::Verdict;
 ghost use mathlib.Core.Path.{_≡_};
@@ -51,11 +51,11 @@ fn fresh_name(
     ensures { λ r. ⌜ toldStep r (now (words .exit)) (now (links .exit)) ≡ ask (freshIn (now (list .entry)) at len j (now (words .entry)) (now (links .entry))) ⌝ }
 {
     let start = at + 2;
-    let b = bucket_of(list, links, start, len);
-    if was_met(list, words, links, j, b, start, len) {
+    let s = seek(list, words, links, j, text_of(list, start, len));
+    if s == 0 {
         return Step::Refused(refusal(54, at));
     }
-    Step::Past(add_name(words, links, j, b, start, len))
+    Step::Past(add_name(words, links, j, s - 1, start, len))
 }
 
 // Name j, whose length stands at `at`.

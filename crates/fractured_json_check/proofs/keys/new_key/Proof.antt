@@ -1,12 +1,6 @@
-use native.Mathlib.Omega.{arith}
-use Rattle.fractured_json_check.proofs.CheckedKeys.{text-met, new-laws}
+use Rattle.fractured_json_check.proofs.CheckedKeys.{new-laws}
 use Rattle.fractured_json_check.proofs.keys.new_key.Statement.{statement}
 use Rattle.fractured_json_check.proofs.keys.new_key.Tie as tie
-use Rattle.fractured_json_check.proofs.keys.new_key.Reads as reads
-use Rattle.fractured_json_check.proofs.keys.new_key.Lts as lts
-use Rattle.fractured_json_check.proofs.keys.fresh_key.Reads as fresh-key-reads
-use Rattle.fractured_json_keys.proofs.chains.bucket_of.Reads as bucket-of-reads
-use Rattle.fractured_json_keys.proofs.chains.was_met.Reads as was-met-reads
 
 sub-if1 : tie.Need-sub-if1
 sub-if1 c = search new-laws
@@ -14,11 +8,11 @@ sub-if1 c = search new-laws
 returns : tie.Need-returns
 returns c = search new-laws
 
-bucket-of-requires : tie.Need-bucket-of-requires
-bucket-of-requires c κs = search new-laws
+text-of-requires : tie.Need-text-of-requires
+text-of-requires c κs = search new-laws
 
-was-met-requires : tie.Need-was-met-requires
-was-met-requires c κs = search new-laws
+seek-requires : tie.Need-seek-requires
+seek-requires c κs = search new-laws
 
 same-length : tie.Need-same-length
 same-length c = search new-laws
@@ -27,7 +21,10 @@ same-length-2 : tie.Need-same-length-2
 same-length-2 c = search new-laws
 
 returns-2 : tie.Need-returns-2
-returns-2 c = text-met _ _ _ _ _ _ _ (omega arith) (omega arith) _ (c .before .was-met .ensures) (c .if2 .taken)
+returns-2 c = search new-laws
+
+sub-fresh-key : tie.Need-sub-fresh-key
+sub-fresh-key c = search new-laws
 
 fresh-key-requires : tie.Need-fresh-key-requires
 fresh-key-requires c κs = search new-laws
@@ -47,11 +44,12 @@ new-key-spec =
     (tie.spec
     sub-if1
     returns
-    bucket-of-requires
-    was-met-requires
+    text-of-requires
+    seek-requires
     same-length
     same-length-2
     returns-2
+    sub-fresh-key
     fresh-key-requires
     same-length-3
     same-length-4

@@ -5,22 +5,12 @@ use Rattle.fractured_json_keys.specs.Chains.{bucketsIn, followed}
 use Rattle.fractured_json_keys.proofs.ChainLaws.{follow-laws}
 use Rattle.fractured_json_keys.proofs.chains.follow.Statement.{statement}
 use Rattle.fractured_json_keys.proofs.chains.follow.Tie as tie
-use Rattle.fractured_json_keys.proofs.chains.follow.Reads as reads
-use Rattle.fractured_json_keys.proofs.chains.follow.Lts as lts
-use Rattle.fractured_json_keys.proofs.chains.buckets.Reads as buckets-reads
-use Rattle.fractured_json_keys.proofs.chains.link_at.Reads as link-at-reads
-use Rattle.fractured_json_keys.proofs.chains.word_at.Reads as word-at-reads
-use Rattle.text.proofs.same.Reads as same-reads
-use Rattle.fractured_json_values.proofs.texts.text_of.Reads as text-of-reads
 
 abbrev Inv-loop : tie.InvT-loop
-Inv-loop doc keys links first t n next₀ left₀ next left = (next < 2 ^ 16) × (followed doc t keys links left next ≡ followed doc t keys links (bucketsIn links) first)
+Inv-loop doc keys links n first t next₀ left₀ next left = (next < 2 ^ 16) × (followed doc t keys links left next ≡ followed doc t keys links (bucketsIn links) first)
 
 abbrev μ-loop : tie.MeasureT-loop
-μ-loop doc keys links first t n next₀ left₀ next left = left
-
-buckets-requires : tie.Need-buckets-requires Inv-loop μ-loop
-buckets-requires c κs = search follow-laws
+μ-loop doc keys links n first t next₀ left₀ next left = left
 
 loop-holds : tie.Need-loop-holds Inv-loop μ-loop
 loop-holds c = search follow-laws
@@ -79,7 +69,6 @@ follow-spec =
     (tie.spec
     Inv-loop
     μ-loop
-    buckets-requires
     loop-holds
     returns
     sub-j

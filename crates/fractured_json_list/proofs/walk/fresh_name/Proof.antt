@@ -1,21 +1,15 @@
 use Rattle.fractured_json_list.proofs.PassLaws.{fresh-laws}
 use Rattle.fractured_json_list.proofs.walk.fresh_name.Statement.{statement}
 use Rattle.fractured_json_list.proofs.walk.fresh_name.Tie as tie
-use Rattle.fractured_json_list.proofs.walk.fresh_name.Reads as reads
-use Rattle.fractured_json_list.proofs.walk.fresh_name.Lts as lts
-use Rattle.fractured_json_keys.proofs.chains.bucket_of.Reads as bucket-of-reads
-use Rattle.fractured_json_keys.proofs.chains.was_met.Reads as was-met-reads
-use Rattle.fractured_json_list.proofs.refusal.Reads as refusal-reads
-use Rattle.fractured_json_list.proofs.walk.add_name.Reads as add-name-reads
 
 add-start : tie.Need-add-start
 add-start c = search fresh-laws
 
-bucket-of-requires : tie.Need-bucket-of-requires
-bucket-of-requires c κs = search fresh-laws
+text-of-requires : tie.Need-text-of-requires
+text-of-requires c κs = search fresh-laws
 
-was-met-requires : tie.Need-was-met-requires
-was-met-requires c κs = search fresh-laws
+seek-requires : tie.Need-seek-requires
+seek-requires c κs = search fresh-laws
 
 refusal-requires : tie.Need-refusal-requires
 refusal-requires c κs = search fresh-laws
@@ -28,6 +22,9 @@ same-length-2 c = search fresh-laws
 
 returns : tie.Need-returns
 returns c = search fresh-laws
+
+sub-add-name : tie.Need-sub-add-name
+sub-add-name c = search fresh-laws
 
 add-name-requires : tie.Need-add-name-requires
 add-name-requires c κs = search fresh-laws
@@ -46,12 +43,13 @@ fresh-name-spec =
     tie.close
     (tie.spec
     add-start
-    bucket-of-requires
-    was-met-requires
+    text-of-requires
+    seek-requires
     refusal-requires
     same-length
     same-length-2
     returns
+    sub-add-name
     add-name-requires
     same-length-3
     same-length-4
