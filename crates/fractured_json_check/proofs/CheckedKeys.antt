@@ -16,13 +16,13 @@ use Rattle.json.specs.Reading.{Outcome, halt, done, ask}
 use Rattle.json.specs.declared.Refusal.{Refusal}
 use Rattle.json.proofs.Reading.{then, stops, pass, fail}
 use Rattle.fractured_json_rules.specs.ByteTables.{keyFormOf}
-use Rattle.fractured_json_rules.specs.Verdict.{numeral, keyNumberAt}
+use Rattle.fractured_json_rules.specs.Verdict.{numeral, keyNumberAt, listedKey}
 use Rattle.fractured_json_rules.specs.KeyTable.{roomOf}
 use Rattle.fractured_json_rules.proofs.Readers.{kept-is, keep-is, text-is, text-past}
 use Rattle.fractured_json_values.specs.Heads.{keyHeadOf, keyNumberBy, numberedBy}
 use Rattle.fractured_json_values.specs.Opened.{ReadsNumeral}
 use Rattle.fractured_json_check.specs.Known.{Known}
-use Rattle.fractured_json_check.specs.Table.{Table, table, freshKeyIn, newKeyIn, oldKeyIn, listedKeyIn, keyIn}
+use Rattle.fractured_json_check.specs.Table.{Table, table, freshKeyIn, newKeyIn, oldKeyIn, keyIn}
 use Rattle.fractured_json_values.specs.declared.types.KeyHead.{KeyHead}
 use Rattle.fractured_json_values.specs.declared.values.Numeral.{Numeral}
 use Rattle.fractured_json_keys.specs.Passed.{withPair}
@@ -86,26 +86,26 @@ pub ruleset fresh-laws = (no-room, key-passed, room-held, count-fits, needs)
 
 module _ (doc : List ℕ) (names at kind number past count : ℕ) (words links : List ℕ) where
   pub as-new : (r : Outcome Table ℕ) → kind ≡ 0 → r ≡ newKeyIn doc at (numeral number past) (table count words links)
-      → r ≡ numberedBy (newKeyIn doc at) (oldKeyIn at) (listedKeyIn names at) kind (numeral number past) (table count words links)
+      → r ≡ numberedBy (newKeyIn doc at) (oldKeyIn at) (listedKey names at) kind (numeral number past) (table count words links)
   unfolding numberedBy choose
   as-new r e h = rw e h
 
-  pub as-old : kind ≡ 1 → number < count → done past (table count words links) ≡ numberedBy (newKeyIn doc at) (oldKeyIn at) (listedKeyIn names at) kind (numeral number past) (table count words links)
+  pub as-old : kind ≡ 1 → number < count → done past (table count words links) ≡ numberedBy (newKeyIn doc at) (oldKeyIn at) (listedKey names at) kind (numeral number past) (table count words links)
   unfolding numberedBy oldKeyIn choose
   as-old e h = rw e (sym (kept-is _ _ ∙ pass _ _ _ _ _ (lt→ltb _ _ h)))
 
-  pub as-unknown : kind ≡ 1 → count ≤ number → halt 38 at (table count words links) ≡ numberedBy (newKeyIn doc at) (oldKeyIn at) (listedKeyIn names at) kind (numeral number past) (table count words links)
+  pub as-unknown : kind ≡ 1 → count ≤ number → halt 38 at (table count words links) ≡ numberedBy (newKeyIn doc at) (oldKeyIn at) (listedKey names at) kind (numeral number past) (table count words links)
   unfolding numberedBy oldKeyIn choose
   as-unknown e h = rw e (sym (kept-is _ _ ∙ fail _ _ _ _ _ (λ t. let l = ltb→lt number count t in omega arith)))
 
   pub as-listed : (kind ≡ 0 → ⊥) → (kind ≡ 1 → ⊥) → number < names
-      → done past (table count words links) ≡ numberedBy (newKeyIn doc at) (oldKeyIn at) (listedKeyIn names at) kind (numeral number past) (table count words links)
-  unfolding numberedBy listedKeyIn choose
+      → done past (table count words links) ≡ numberedBy (newKeyIn doc at) (oldKeyIn at) (listedKey names at) kind (numeral number past) (table count words links)
+  unfolding numberedBy listedKey choose
   as-listed f g h = rw (ne-eqb kind 0 f, ne-eqb kind 1 g) (sym (pass _ _ _ _ _ (lt→ltb _ _ h)))
 
   pub as-unlisted : (kind ≡ 0 → ⊥) → (kind ≡ 1 → ⊥) → names ≤ number
-      → halt 38 at (table count words links) ≡ numberedBy (newKeyIn doc at) (oldKeyIn at) (listedKeyIn names at) kind (numeral number past) (table count words links)
-  unfolding numberedBy listedKeyIn choose
+      → halt 38 at (table count words links) ≡ numberedBy (newKeyIn doc at) (oldKeyIn at) (listedKey names at) kind (numeral number past) (table count words links)
+  unfolding numberedBy listedKey choose
   as-unlisted f g h = rw (ne-eqb kind 0 f, ne-eqb kind 1 g) (sym (fail _ _ _ _ _ (λ t. let l = ltb→lt number names t in omega arith)))
 
 pub ruleset numbered-laws = (as-new, as-old, as-unknown, as-listed, as-unlisted, needs)
@@ -127,7 +127,7 @@ module _ (doc : List ℕ) (names at count : ℕ) (words links : List ℕ) where
       unfolding keyIn
       key-refused r e = sym (number-refused doc at _ _ _ _ i h hs f c cs r e)
 
-      pub key-by-number : (n p : ℕ) (z : Outcome Table ℕ) → c ≡ Numeral.Is n p → z ≡ numberedBy (newKeyIn doc at) (oldKeyIn at) (listedKeyIn names at) (h .kind) (numeral n p) (table count words links)
+      pub key-by-number : (n p : ℕ) (z : Outcome Table ℕ) → c ≡ Numeral.Is n p → z ≡ numberedBy (newKeyIn doc at) (oldKeyIn at) (listedKey names at) (h .kind) (numeral n p) (table count words links)
           → z ≡ keyIn doc names at (table count words links)
       unfolding keyIn
       key-by-number n p z e q = q ∙ sym (number-read doc at _ _ _ _ i h hs f c cs n p e)

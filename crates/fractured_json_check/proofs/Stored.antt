@@ -21,7 +21,7 @@ use Rattle.fractured_json_values.specs.Opened.{Opened, leaf, inside, openedAt}
 use Rattle.fractured_json_keys.specs.Passed.{keysFrom, keysIn, withPair}
 use Rattle.fractured_json_keys.specs.Chains.{bucketsIn, bucketOf, seenIn, linkedIn}
 use Rattle.fractured_json_keys.proofs.Chained.{Linked, no-links, seen-met, linked-more}
-use Rattle.fractured_json_check.specs.Table.{Table, table, freshKeyIn, newKeyIn, oldKeyIn, listedKeyIn, keyIn, out, walkedBy, walked, toldWalk}
+use Rattle.fractured_json_check.specs.Table.{Table, table, freshKeyIn, newKeyIn, oldKeyIn, keyIn, out, walkedBy, walked, toldWalk}
 use Rattle.fractured_json_check.specs.declared.walk.Walk.{Walk}
 use Rattle.fractured_json_check.specs.declared.walk.Walk.the-variants.{End, Refused}
 use Rattle.fractured_json_values.proofs.Carried.{carry, carry-byte, carry-key-number, carry-opened}
@@ -195,12 +195,12 @@ module _ (words doc : List ℕ) (names : ℕ) where
       let e : ltb (n .is) (length ks) ≡ ltb (n .is) (t .count) = rw (r .counts) in
       rw (kept-is _ ks, kept-is _ t) (sim-test _ _ _ _ _ _ ks t e r (λ y. (refl, r)))
 
-  sim-listed : (o : ℕ) (n : Numeral) → Sim (listedKey names o n) (listedKeyIn names o n)
-  unfolding listedKey listedKeyIn
+  sim-listed : (o : ℕ) (n : Numeral) → Sim (listedKey names o n) (listedKey names o n)
+  unfolding listedKey
   sim-listed o n ks t r = sim-test _ _ _ _ _ _ ks t refl r (λ y. (refl, r))
 
   sim-by : (o : ℕ) (f : KeyForm)
-      → Sim (keyBy doc o (newKey (roomOf words) doc o) (oldKey o) (listedKey names o) f) (keyBy doc o (newKeyIn doc o) (oldKeyIn o) (listedKeyIn names o) f)
+      → Sim (keyBy doc o (newKey (roomOf words) doc o) (oldKey o) (listedKey names o) f) (keyBy doc o (newKeyIn doc o) (oldKeyIn o) (listedKey names o) f)
   unfolding keyBy
   sim-by o (immediate x) = sim-then _ _ _ _ (sim-key-number o x) (λ n. sim-new o n)
   sim-by o (backReference x) = sim-then _ _ _ _ (sim-key-number o x) (λ n. sim-old o n)

@@ -10,7 +10,7 @@ use Rattle.json.specs.Limits.{deepest}
 use Rattle.json.specs.Reading.{Outcome, halt, done, Reading, Asked, answers, refuses, answer, kept, keep, _>>=_, _>>_, need}
 use Rattle.fractured_json_rules.specs.ByteTables.{keyFormOf}
 use Rattle.fractured_json_rules.specs.Meaning.{Keys}
-use Rattle.fractured_json_rules.specs.Verdict.{byteAt, textAt, Numeral, value, keyBy, checkKey, keysOf, verdictOf}
+use Rattle.fractured_json_rules.specs.Verdict.{byteAt, textAt, Numeral, value, keyBy, listedKey, checkKey, keysOf, verdictOf}
 use Rattle.fractured_json_rules.specs.KeyTable.{roomOf, stored}
 use Rattle.fractured_json_keys.specs.Passed.{withPair}
 use Rattle.fractured_json_keys.specs.Chains.{bucketsIn, bucketOf, seenIn, linkedIn}
@@ -49,16 +49,10 @@ oldKeyIn o n = do
   need (ltb (n .is) (t .count)) 38 o
   answer (n .past)
 
--- a global index, with a list of so many names
-unfoldable pub listedKeyIn : ℕ → ℕ → Numeral → Reading Table ℕ
-listedKeyIn names o n = do
-  need (ltb (n .is) names) 38 o
-  answer (n .past)
-
 unfoldable pub keyIn : List ℕ → ℕ → ℕ → Reading Table ℕ
 keyIn doc names o = do
   b ← byteAt doc o o
-  keyBy doc o (newKeyIn doc o) (oldKeyIn o) (listedKeyIn names o) (keyFormOf b)
+  keyBy doc o (newKeyIn doc o) (oldKeyIn o) (listedKey names o) (keyFormOf b)
 
 -- where the value of an entry starts: in an object after its key
 unfoldable pub keyedIn : Bool → List ℕ → ℕ → ℕ → Reading Table ℕ

@@ -12,10 +12,10 @@ use json::Refusal;
 ghost use mathlib.Core.Path.{_≡_};
 ghost use Prim.Native.Nat.{_+_, _^_, _≤_, _<_};
 ghost use lib.ListN.{length};
-ghost use Rattle.fractured_json_rules.specs.Verdict.{numeral};
+ghost use Rattle.fractured_json_rules.specs.Verdict.{numeral, listedKey};
 ghost use Rattle.fractured_json_values.specs.Heads.{numberedBy};
 ghost use Rattle.fractured_json_check.specs.Known.{Known};
-ghost use Rattle.fractured_json_check.specs.Table.{table, freshKeyIn, newKeyIn, oldKeyIn, listedKeyIn, keyIn, out};
+ghost use Rattle.fractured_json_check.specs.Table.{table, freshKeyIn, newKeyIn, oldKeyIn, keyIn, out};
 
 // An immediate key whose text of `number` bytes at `past` is fresh and falls into the bucket `b`: once passed, it has its pair,
 // its link and its number.
@@ -96,7 +96,7 @@ fn numbered(
     past: usize,
 ) -> Walk
     requires { ⌜ (length (now doc) < 2 ^ 32) × (past ≤ length (now doc)) ⌝ }
-    ensures { λ r. ⌜ out r (now (keys .exit)) (now (links .exit)) ≡ numberedBy (newKeyIn (now (doc .entry)) at) (oldKeyIn at) (listedKeyIn names at) kind (numeral number past) (table count (now (keys .entry)) (now (links .entry))) ⌝ }
+    ensures { λ r. ⌜ out r (now (keys .exit)) (now (links .exit)) ≡ numberedBy (newKeyIn (now (doc .entry)) at) (oldKeyIn at) (listedKey names at) kind (numeral number past) (table count (now (keys .entry)) (now (links .entry))) ⌝ }
 {
     if kind == 0 {
         return new_key(doc, keys, links, count, at, number, past);

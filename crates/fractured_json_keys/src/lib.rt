@@ -1,4 +1,4 @@
-// The keys that the check has passed: their pairs in the lent table, and chains of keys with equal hashes, by which rule 39 is
-// tested.
+// The keys that the check has passed, or the names of a key list: their pairs in a table, and chains of those that fall into one
+// bucket of hashes, by which rules 39 and 54 are tested.
 pub mod chains;
 pub mod pairs;

@@ -154,7 +154,7 @@ oldKey o n = do
   answer (n .past)
 
 -- a global index, with a list of so many names
-unfoldable pub listedKey : ℕ → ℕ → Numeral → Reading Keys ℕ
+unfoldable pub listedKey : {S : Type 0} → ℕ → ℕ → Numeral → Reading S ℕ
 listedKey named o n = do
   need (ltb (n .is) named) 38 o
   answer (n .past)
