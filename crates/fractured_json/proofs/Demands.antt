@@ -18,7 +18,7 @@ use Rattle.fractured_json_rules.specs.KeyList.{keyList}
 use Rattle.fractured_json_rules.specs.Verdict.{verdict, keysOf}
 use Rattle.fractured_json_rules.specs.KeyTable.{roomOf, keyOf, checkedBy, checked}
 use Rattle.fractured_json_rules.specs.Leads.{Leads, StandsFor}
-use Rattle.fractured_json_rules.specs.Questions.{Lender, theDocument, theList, KeyRead, lent, textIn, endOf, kind, numberAt, stringAt, stringBytes, elementAt, memberAt, firstMember, keyAt, keyBytes}
+use Rattle.fractured_json_rules.specs.Questions.{Lender, theDocument, theList, KeyRead, lent, endOf, kind, numberAt, stringAt, stringBytes, elementAt, memberAt, firstMember, keyAt, keyBytes}
 use Rattle.fractured_json_rules.specs.Questions as Questions
 use Rattle.fractured_json_rules.specs.Answers.{kindOf, valueOf}
 use Rattle.fractured_json_rules.proofs.KeyList.{list-exactly}

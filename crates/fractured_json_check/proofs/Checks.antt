@@ -6,7 +6,7 @@ use Prim.Native.Nat.{ℕ, zero, suc, _^_, _<_}
 use native.Mathlib.Omega.{arith}
 use borrow.Author.Needs.{needs}
 use lib.Dec.{eqb, eqb-refl}
-use lib.ListN.{length, getD, replicate}
+use lib.ListN.{length, replicate}
 use Rattle.json.specs.Limits.{deepest}
 use Rattle.json.specs.Reading.{Outcome, halt, done, Asked, ask, answers, refuses, answer, follow, _>>=_, need, told}
 use Rattle.json.specs.declared.Refusal.{Refusal}

@@ -14,7 +14,6 @@ use Rattle.json.specs.Texts.{compareTexts, isEqual}
 use Rattle.json.specs.Tree.{Tree, Trees, none, more, Members, end, depth, depths, depthm, size, sizem, MemberIs, Lacks}
 use Rattle.json.specs.Tree as Tree
 use Rattle.json.proofs.Reading.{then, pass}
-use Rattle.fractured_json_rules.specs.ByteTables.{bytes}
 use Rattle.fractured_json_rules.specs.Meaning.{Names, Lists, Key, noKey, Keys, keyText, KeyIs, asText, asBack, asGlobal, ValueIs, ValuesAre, MembersAre}
 use Rattle.fractured_json_rules.specs.KeyList.{countIn, steps, nameOf}
 use Rattle.fractured_json_rules.specs.Verdict.{inTurn, member, keyBy}

@@ -5,9 +5,8 @@ use mathlib.Core.List.{List, [], _∷_, _++_}
 use mathlib.Core.Logic.{_≢_, _↔_}
 use mathlib.Core.Path.{_≡_, refl, sym, ap, _∙_}
 use native.Mathlib.Omega.{arith}
-use lib.Dec.{le→leb, leb→le, lt→ltb, eqb→eq, eqb-refl}
+use lib.Dec.{le→leb, leb→le, lt→ltb, eqb→eq}
 use lib.ListN.{length, getD}
-use Rattle.json.specs.Bytes.{number}
 use Rattle.json.specs.Reading.{Reading, done, ask, answers, _>>=_}
 use Rattle.json.proofs.Reading.{step, passed, pass, need-yes, eq→eqb}
 use Rattle.fractured_json_rules.specs.Meaning.{Names, NamesFrom, Distinct, Lists, Key, Keys, keyText, Fresh}

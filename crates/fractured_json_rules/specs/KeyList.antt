@@ -5,7 +5,7 @@ use mathlib.Core.Bool.{Bool, true, false, not}
 use mathlib.Core.List.{List, [], _∷_, _++_}
 use lib.Dec.{ltb, leb, eqb}
 use lib.ListN.{length, getD}
-use Rattle.json.specs.Bytes.{number, part}
+use Rattle.json.specs.Bytes.{number}
 use Rattle.json.specs.Choose.{choose}
 use Rattle.json.specs.Reading.{Reading, _>>=_, _>>_, need}
 use Rattle.json.specs.Texts.{compareTexts, isEqual}
