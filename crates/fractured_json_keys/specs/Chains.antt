@@ -1,6 +1,6 @@
 -- The test of rules 39 and 54 by chains: for each bucket of hashes the last key passed whose text falls into it, and for each key
--- the one before it in its bucket; a name of the key list counts as a key. A link is one more than the number of its key, and 0 where the chain ends. The links are the code's
--- own; proofs/Chained.antt shows that the chains find what the rules' test finds.
+-- the one before it in its bucket; a name of the key list counts as a key. A link is one more than the number of its key, and 0
+-- where the chain ends. The links are the code's own; proofs/Chained.antt shows that the chains find what the rules' test finds.
 use Prim.Native.Nat.{ℕ, zero, suc, _+_, _*_, _/_, _^_, min}
 use mathlib.Core.Bool.{Bool, true, false}
 use mathlib.Core.List.{List}
