@@ -8,7 +8,7 @@ use borrow.Author.Needs.{needs}
 use lib.Dec.{T, leb, ltb, le→leb, lt→ltb}
 use mir.Syntax.{w64}
 use mir.Val.{Fits}
-use Rattle.json.specs.Limits.{longest}
+use Rattle.json.specs.Limits.{longest, deepest}
 use Rattle.json.specs.Reading.{Reading, refuse, ask, answers, refuses, told, _>>=_, need}
 use Rattle.json.specs.declared.Refusal.{Refusal}
 use Rattle.json.specs.declared.Verdict.{Verdict}
@@ -300,11 +300,11 @@ module _ (doc : List ℕ) (kind : ℕ) (ks : kind ≡ low doc 4) (w : Walk) wher
   unfolding rootBy kindOf
   root-scalar e h = h ∙ rw (sym ks, e)
 
-  walked : (k : ℕ) → (k ≡ 2 → ⊥) → ask (container 32 doc 4) ≡ ask (rootBy doc (kindOf k))
+  walked : (k : ℕ) → (k ≡ 2 → ⊥) → ask (container deepest doc 4) ≡ ask (rootBy doc (kindOf k))
   unfolding rootBy
-  walked = by-kind (λ k t. (k ≡ 2 → ⊥) → ask (container 32 doc 4) ≡ ask (rootBy doc t)) (λ h. refl) (λ h. refl) (λ h. absurd (h refl)) (λ k h. refl)
+  walked = by-kind (λ k t. (k ≡ 2 → ⊥) → ask (container deepest doc 4) ≡ ask (rootBy doc t)) (λ h. refl) (λ h. refl) (λ h. absurd (h refl)) (λ k h. refl)
 
-  pub root-walked : (kind ≡ 2 → ⊥) → toldWalk w ≡ ask (container 32 doc 4) → toldWalk w ≡ ask (rootBy doc (kindOf (low doc 4)))
+  pub root-walked : (kind ≡ 2 → ⊥) → toldWalk w ≡ ask (container deepest doc 4) → toldWalk w ≡ ask (rootBy doc (kindOf (low doc 4)))
   root-walked e h = h ∙ (walked kind e ∙ ap (λ k. ask (rootBy doc (kindOf k))) ks)
 
 pub ruleset root-laws = (size-refused, scalar-refused, scalar-ends, scalar-child, scalar-step, root-scalar, root-walked, needs)

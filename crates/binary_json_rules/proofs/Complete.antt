@@ -104,11 +104,11 @@ module _ {S : Type 0} (doc : List ℕ) (s : S) where
   root-done (arr ts) e h f z =
       let m = h .0 in let i = m .inside in
       let j : 8 ≤ index doc = omega arith in
-      rw (m .kind-is) (pass _ _ _ _ s (le→leb _ _ j) ∙ rw (m .kind-is, m .size-is) (pass _ _ _ _ s (le→leb _ _ i) ∙ entries-done ts 31 8 _ e (h .1) f (omega arith)))
+      rw (m .kind-is) (pass _ _ _ _ s (le→leb _ _ j) ∙ rw (m .kind-is, m .size-is) (pass _ _ _ _ s (le→leb _ _ i) ∙ entries-done ts (deepest - 1) 8 _ e (h .1) f (omega arith)))
   root-done (obj ms) e h f z =
       let m = h .0 in let i = m .inside in
       let j : 8 ≤ index doc = omega arith in
-      let r = members-done ms 31 0 8 _ _ e (h .1) f (omega arith) in
+      let r = members-done ms (deepest - 1) 0 8 _ _ e (h .1) f (omega arith) in
       rw (m .kind-is) (pass _ _ _ _ s (le→leb _ _ j) ∙ rw (m .kind-is, m .size-is) (pass _ _ _ _ s (le→leb _ _ i) ∙ (then _ _ s (r .0) ∙ r .1)))
 
   -- ---- slots

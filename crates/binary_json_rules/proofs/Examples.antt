@@ -1,14 +1,14 @@
 -- Examples that hold each number and place of refusal, and each question's answers, to what document 01 says. They are
 -- computed from the definitions, so that no rule can be changed unnoticed where the theorems leave its number or place open.
-use Prim.Native.Nat.{ℕ, _<_}
-use mathlib.Core.List.{List, [], _∷_, map}
+use Prim.Native.Nat.{ℕ, zero, suc, _+_, _-_, _*_, _<_}
+use mathlib.Core.List.{List, [], _∷_, _++_, map, reverse}
 use mathlib.Core.Path.{_≡_, refl, _∙_}
 use native.Mathlib.Omega.{arith}
 use lib.Dec.{leb→le, le→leb}
 use lib.ListN.{length}
 use Rattle.json.specs.Bytes.{number, hex}
 use Rattle.json.specs.Choose.{choose}
-use Rattle.json.specs.Limits.{longest}
+use Rattle.json.specs.Limits.{longest, deepest}
 use Rattle.json.specs.Number.{finite}
 use Rattle.json.specs.Reading.{Asked, ask, answers, refuses, follow, _>>=_, need}
 use Rattle.json.specs.Texts.{byNumbers, compareTexts}
@@ -29,6 +29,15 @@ pub record Example : Type 0 where
 
 abbrev says : List ℕ → Asked (Unit {0}) → Example
 says doc verdict = record { doc = doc; says = verdict }
+
+-- a word, lowest byte first
+abbrev little : ℕ → List ℕ
+little w = reverse (hex 4 w)
+
+-- n arrays in each other from `at` on, each with one Entry, which names the next
+abbrev levels : ℕ → ℕ → List ℕ
+levels zero at = []
+levels (suc n) at = little (32 * 1) ++ little (32 * (at + 8) + 5) ++ levels n (at + 8)
 
 abbrev pub checks : List Example
 checks =
@@ -79,8 +88,10 @@ checks =
     says (hex 25 0x01020000210000008002000001000000010000002003000000) (refuses 11 8) ∷
     says (hex 39 0x0103000041000000200000001C000000000000000000000002000000A0040000E0040000006100) (refuses 11 12) ∷
     says (hex 39 0x01030000410000001C0000001C000000000000000000000002000000A0040000E0040000006100) (refuses 11 12) ∷
-    -- 12 before 8: the 33rd container is due at S
-    says (hex 264 0x8120000020000000850100002000000085020000200000008503000020000000850400002000000085050000200000008506000020000000850700002000000085080000200000008509000020000000850A000020000000850B000020000000850C000020000000850D000020000000850E000020000000850F0000200000008510000020000000851100002000000085120000200000008513000020000000851400002000000085150000200000008516000020000000851700002000000085180000200000008519000020000000851A000020000000851B000020000000851C000020000000851D000020000000851E000020000000851F0000200000008520000000000000) (refuses 12 260) ∷
+    -- 12 before 8: the container one level too deep is due at S
+    says (little (32 * (4 + 8 * deepest) + 1) ++ levels deepest 4 ++ hex 4 0) (refuses 12 (4 + 8 * deepest)) ∷
+    -- the last level is good, and empty
+    says (little (32 * (8 * deepest) + 1) ++ levels (deepest - 1) 4 ++ hex 8 0) (answers tt) ∷
     -- all KeyEntries before any Entry; each child before the next Entry
     says (hex 33 0x01030000410000001C0000001C0000000900000000000000010000002004000000) (refuses 11 12) ∷
     says (hex 28 0x01030000400000000502000009000000200000000800000000000000) (refuses 9 20) ∷

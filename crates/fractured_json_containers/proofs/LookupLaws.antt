@@ -14,7 +14,7 @@ use Rattle.json.specs.Texts.{compareTexts, isEqual}
 use Rattle.json.specs.declared.Refusal.{Refusal}
 use Rattle.json.proofs.Reading.{then, stops}
 use Rattle.fractured_json_rules.specs.Verdict.{value}
-use Rattle.fractured_json_rules.specs.Questions.{readKey, passKey, Found, valueAt, absent, findFrom, findIn}
+use Rattle.fractured_json_rules.specs.Questions.{readKey, passKey, inner, Found, valueAt, absent, findFrom, findIn}
 use Rattle.fractured_json_list.specs.Finding.{Named}
 use Rattle.fractured_json_containers.specs.Asked.{inDocument, inList, ReadsKey, ComparesAs, Compares, Looks}
 use Rattle.fractured_json_answers.specs.Told.{toldPlace}
@@ -80,11 +80,11 @@ module _ (doc list words : List ℕ) (count : ℕ) (x : List ℕ) (later at : �
     unfolding findFrom choose
     last-key z = let w : Compares doc list words count x at (Compared.Other past) = rw q at ks in rw z (then _ _ tt (w .1) ∙ rw (w .2))
 
-    past-key : (l : ℕ) → ask (findFrom doc list words count x (suc l) at) ≡ (value (passKey doc list words count) 31 doc past >>= λ next. findFrom doc list words count x l next) tt
+    past-key : (l : ℕ) → ask (findFrom doc list words count x (suc l) at) ≡ (value (passKey doc list words count) inner doc past >>= λ next. findFrom doc list words count x l next) tt
     unfolding findFrom choose
     past-key l = let w : Compares doc list words count x at (Compared.Other past) = rw q at ks in then _ _ tt (w .1) ∙ rw (w .2, w .3)
 
-    module _ (f : later ≡ 0 → ⊥) (w : Place) (ws : toldPlace w ≡ ask (value (passKey doc list words count) 31 doc past)) where
+    module _ (f : later ≡ 0 → ⊥) (w : Place) (ws : toldPlace w ≡ ask (value (passKey doc list words count) inner doc past)) where
       one-more : later ≡ suc (later - 1)
       one-more = omega (arith, f)
 

@@ -10,6 +10,7 @@ use lib.ListN.{length, getD}
 use mir.Syntax.{w8}
 use mir.Val.{Fits}
 use Rattle.json.specs.Bytes.{part}
+use Rattle.json.specs.Limits.{deepest}
 use Rattle.json.specs.Reading.{Asked, ask, answers, refuses, told}
 use Rattle.json.specs.declared.Refusal.{Refusal}
 use Rattle.json.specs.declared.Verdict.{Verdict}
@@ -17,7 +18,7 @@ use Rattle.json.proofs.Bytes.{number-small}
 use Rattle.json.proofs.Reading.{step, then, stops, pass, fail}
 use Rattle.fractured_json_rules.specs.KeyList.{countIn, keyList, nameOf}
 use Rattle.fractured_json_rules.specs.Verdict.{inTurn, value}
-use Rattle.fractured_json_rules.specs.Questions.{opening, typeAt, theDocument, theList, readKey, passKey, endOf, anObject, anArray, elementFrom, elementAt, MemberAt, memberFrom, memberAt, Found, findIn, firstMember, keyAt, keyBytes}
+use Rattle.fractured_json_rules.specs.Questions.{opening, typeAt, theDocument, theList, readKey, passKey, inner, endOf, anObject, anArray, elementFrom, elementAt, MemberAt, memberFrom, memberAt, Found, findIn, firstMember, keyAt, keyBytes}
 use Rattle.fractured_json_values.specs.Opened.{entry, ReadsNumeral}
 use Rattle.fractured_json_scalars.specs.Asked.{wantedIn}
 use Rattle.fractured_json_list.specs.Finding.{namedFrom, Named}
@@ -37,7 +38,7 @@ module _ (doc list words : List ℕ) (count at : ℕ) (v : Verdict) (vs : told v
   unfolding endOf
   end-refused r e = sym (stops _ _ tt (sym vs ∙ ap told e))
 
-  pub end-walked : (r : Asked ℕ) → v ≡ Verdict.Accepted → r ≡ ask (value (passKey doc list words count) 32 doc at) → r ≡ ask (endOf doc list words count at)
+  pub end-walked : (r : Asked ℕ) → v ≡ Verdict.Accepted → r ≡ ask (value (passKey doc list words count) deepest doc at) → r ≡ ask (endOf doc list words count at)
   unfolding endOf
   end-walked r e h = h ∙ sym (then _ _ tt (sym vs ∙ ap told e))
 
@@ -50,7 +51,7 @@ module _ (doc list words : List ℕ) (count at i : ℕ) where
   unfolding elementFrom
   element-past n first h = sym (fail _ _ _ _ tt (λ t. let l = ltb→lt i n t in omega arith))
 
-  pub element-walked : (n first : ℕ) (r : Asked ℕ) → i < n → r ≡ ask (inTurn (entry false (passKey doc list words count) (value (passKey doc list words count) 31 doc)) i first)
+  pub element-walked : (n first : ℕ) (r : Asked ℕ) → i < n → r ≡ ask (inTurn (entry false (passKey doc list words count) (value (passKey doc list words count) inner doc)) i first)
       → r ≡ ask (elementFrom doc list words count at i n first)
   unfolding elementFrom entry
   element-walked n first r h e = e ∙ sym (pass _ _ _ _ tt (lt→ltb _ _ h))
@@ -75,7 +76,7 @@ module _ (doc list words : List ℕ) (count at j : ℕ) where
   unfolding memberFrom
   member-past n first h = sym (fail _ _ _ _ tt (λ t. let l = ltb→lt j n t in omega arith))
 
-  module _ (n first : ℕ) (h : j < n) (w : Place) (ws : toldPlace w ≡ ask (inTurn (entry true (passKey doc list words count) (value (passKey doc list words count) 31 doc)) j first)) where
+  module _ (n first : ℕ) (h : j < n) (w : Place) (ws : toldPlace w ≡ ask (inTurn (entry true (passKey doc list words count) (value (passKey doc list words count) inner doc)) j first)) where
     pub members-refused : (r : Refusal) → w ≡ Place.Refused r → refuses (r .number) (r .place) ≡ ask (memberFrom doc list words count at j n first)
     unfolding memberFrom entry
     members-refused r q = sym (pass _ _ _ _ tt (lt→ltb _ _ h) ∙ stops _ _ tt (sym ws ∙ ap toldPlace q))

@@ -1,6 +1,6 @@
 -- Small key lists and documents with what the checks and the questions say of them: each number of refusal with its place and the
 -- pairs of the keys passed until then, and good answers of each question. 32 is shown for every document that is too long.
-use Prim.Native.Nat.{ℕ, _-_, _/_, _≤_, _<_}
+use Prim.Native.Nat.{ℕ, _+_, _-_, _/_, _≤_, _<_}
 use mathlib.Core.List.{List, [], _∷_, _++_, map}
 use mathlib.Core.Path.{_≡_, refl, _∙_}
 use native.Mathlib.Omega.{arith}
@@ -8,7 +8,7 @@ use lib.Dec.{leb→le, le→leb}
 use lib.ListN.{length, replicate}
 use Rattle.json.specs.Bytes.{number, hex}
 use Rattle.json.specs.Choose.{choose}
-use Rattle.json.specs.Limits.{leastFractured, longest}
+use Rattle.json.specs.Limits.{leastFractured, longest, deepest}
 use Rattle.json.specs.Number.{finite}
 use Rattle.json.specs.Reading.{halt, done, follow, _>>=_, need, Asked, ask, answers, refuses}
 use Rattle.json.specs.Texts.{byNumbers, compareTexts}
@@ -19,7 +19,7 @@ use Rattle.fractured_json_rules.specs.KeyList.{met, namesFrom, keyList, 
 use Rattle.fractured_json_rules.specs.Verdict.{header, byteAt, payload, lengthAt, textAt, afterSecond, afterFirst, keyNumberAt, inTurn, member, valueBy, value}
 use Rattle.fractured_json_rules.specs.Verdict.{keyBy, newKey, oldKey, listedKey, checkKey, document, check, verdict}
 use Rattle.fractured_json_rules.specs.KeyTable.{roomOf, stored, Checked, checked}
-use Rattle.fractured_json_rules.specs.Questions.{opening, typeAt, theDocument, theList, KeyRead, textKey, backKey, nameKey, readKey, passKey, endOf, Kind, isNull, isFalse, isTrue, isNumber}
+use Rattle.fractured_json_rules.specs.Questions.{opening, typeAt, theDocument, theList, KeyRead, textKey, backKey, nameKey, readKey, passKey, inner, endOf, Kind, isNull, isFalse, isTrue, isNumber}
 use Rattle.fractured_json_rules.specs.Questions.{isString, isObject, isArray, kindBy, kind, numberBy, wantedBy, wantedAt, stringBytes}
 use Rattle.fractured_json_rules.specs.Questions.{elementFrom, memberFrom, Found, valueAt, findFrom, findIn, firstMember, keyBytes}
 use Rattle.fractured_json_rules.specs.Questions as Questions
@@ -139,16 +139,16 @@ examples =
     example (hex 7 0x464A016F046100) 1 (refuses 40 4) [] ∷
     example (hex 10 0x464A0170046100046200) 3 (refuses 40 7) (5 ∷ 1 ∷ []) ∷
     -- 41: after the length, before the contents
-    example (nested 32 (hex 1 0x9E)) 4 (refuses 41 35) [] ∷
-    example (nested 32 (hex 5 0x15FFFFFFFF)) 4 (refuses 41 35) [] ∷
-    example (nested 32 (hex 1 0x13)) 4 (refuses 35 35) [] ∷
+    example (nested deepest (hex 1 0x9E)) 4 (refuses 41 (3 + deepest)) [] ∷
+    example (nested deepest (hex 5 0x15FFFFFFFF)) 4 (refuses 41 (3 + deepest)) [] ∷
+    example (nested deepest (hex 1 0x13)) 4 (refuses 35 (3 + deepest)) [] ∷
     -- 42
     example (hex 5 0x464A0100FF) 4 (refuses 42 4) [] ∷
     example (hex 8 0x464A016F04610000) 4 (refuses 42 7) (5 ∷ 1 ∷ []) ∷
     -- 43
     example (hex 12 0x464A010C000000000000F07F) 4 (refuses 43 3) [] ∷
     example (hex 8 0x464A010B0000807F) 4 (refuses 43 3) [] ∷
-    example (nested 32 (hex 9 0x0C000000000000F07F)) 4 (refuses 43 35) [] ∷
+    example (nested deepest (hex 9 0x0C000000000000F07F)) 4 (refuses 43 (3 + deepest)) [] ∷
     -- accepted
     example (hex 4 0x464A016E) 0 accepted [] ∷
     example (hex 7 0x464A016F046100) 3 accepted (5 ∷ 1 ∷ []) ∷
@@ -157,8 +157,8 @@ examples =
     example (hex 11 0x464A017004610005610000) 4 accepted (5 ∷ 1 ∷ 8 ∷ 2 ∷ []) ∷
     example (hex 9 0x464A016F0080800000) 4 accepted (8 ∷ 0 ∷ []) ∷
     example (hex 10 0x464A016F008180006100) 4 accepted (8 ∷ 1 ∷ []) ∷
-    example (nested 31 (hex 1 0x9E)) 4 accepted [] ∷
-    example (nested 32 (hex 1 0x00)) 4 accepted [] ∷
+    example (nested (deepest - 1) (hex 1 0x9E)) 4 accepted [] ∷
+    example (nested deepest (hex 1 0x00)) 4 accepted [] ∷
     -- a bad list before 31; the words stay as they were
     listed [] [] 4 (refuses 52 0) [] ∷
     listed (hex 4 0x00000000) (hex 7 0x464A016F046100) 4 (refuses 53 3) [] ∷
@@ -183,7 +183,7 @@ unfolding follow _>>=_ need choose number finite byNumbers compareTexts formOf k
     inTurn member valueBy value keyBy met namesFrom keyList newKey oldKey listedKey checkKey document check roomOf stored
 check-says = refl
 
--- 32: over 65,536 bytes
+-- 32, of any document over the limit
 pub too-long : (room : ℕ) (doc list : List ℕ) (names : Names) → Lists list names → longest < length doc → verdict room doc list ≡ halt 32 (length doc) []
 unfolding check document header
 too-long room doc list names l h =
@@ -286,8 +286,8 @@ lines =
     line (hex 9 0x464A01700461005701) (5 ∷ 1 ∷ []) 1 (endAt 3) (placeIs 9) ∷
     line (hex 9 0x464A01700461005701) [] 0 (endAt 3) (refused 38 7) ∷
     line (hex 7 0x464A016F046100) (4 ∷ 1 ∷ 9 ∷ []) 2 (endAt 3) (placeIs 7) ∷
-    line (nested 32 (hex 1 0x9E)) [] 0 (endAt 3) (refused 41 35) ∷
-    line (nested 32 (hex 1 0x9E)) [] 0 (endAt 4) (placeIs 36) ∷
+    line (nested deepest (hex 1 0x9E)) [] 0 (endAt 3) (refused 41 (3 + deepest)) ∷
+    line (nested deepest (hex 1 0x9E)) [] 0 (endAt 4) (placeIs (4 + deepest)) ∷
     -- 38: index at the count, count over the room, pair outside the document
     line (hex 6 0x464A016F5700) (4 ∷ 1 ∷ []) 0 (endAt 3) (refused 38 4) ∷
     line (hex 6 0x464A016F5700) (4 ∷ 1 ∷ 9 ∷ []) 2 (endAt 3) (refused 38 4) ∷
@@ -331,8 +331,8 @@ lines =
     line (hex 14 0x464A01A00C000000000000F07F00) [] 0 (elementAt 3 0) (placeIs 4) ∷
     line (hex 14 0x464A01A00C000000000000F07F00) [] 0 (elementAt 3 1) (refused 43 4) ∷
     line (hex 8 0x464A01A06F570001) (5 ∷ 99 ∷ []) 1 (elementAt 3 1) (refused 38 5) ∷
-    line (hex 4 0x464A01A0 ++ replicate 31 0x9F ++ hex 2 0x9E00) [] 0 (elementAt 3 1) (refused 41 35) ∷
-    line (hex 4 0x464A01A0 ++ replicate 30 0x9F ++ hex 2 0x9E00) [] 0 (elementAt 3 1) (placeIs 35) ∷
+    line (hex 4 0x464A01A0 ++ replicate inner 0x9F ++ hex 2 0x9E00) [] 0 (elementAt 3 1) (refused 41 (4 + inner)) ∷
+    line (hex 4 0x464A01A0 ++ replicate (inner - 1) 0x9F ++ hex 2 0x9E00) [] 0 (elementAt 3 1) (placeIs (4 + inner)) ∷
     -- member j: its own key is read
     line (hex 4 0x464A016F) [] 0 (memberAt 3 0) (refused 35 4) ∷
     line (hex 7 0x464A016F046102) [] 0 (memberAt 3 0) (placesAre 4 6) ∷

@@ -44,5 +44,5 @@ nesting = (refl, refl)
 
 -- the limits of document 01
 pub limits :
-    (leastBinary ≡ 12) × (leastFractured ≡ 4) × (longest ≡ 65_536) × (deepest ≡ 32) × (mostKeys ≡ 4_096) × (longestLine ≡ 32_768) × (benchKeys ≡ 4_096)
+    (leastBinary ≡ 12) × (leastFractured ≡ 4) × (longest ≡ 16_777_216) × (deepest ≡ 64) × (mostKeys ≡ 4_096) × (longestLine ≡ 32_768) × (benchKeys ≡ 4_096)
 limits = (refl, refl, refl, refl, refl, refl, refl)

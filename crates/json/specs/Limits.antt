@@ -9,11 +9,11 @@ abbrev pub leastFractured : ℕ
 leastFractured = 4
 
 abbrev pub longest : ℕ
-longest = 65_536
+longest = 16_777_216
 
 -- how deep containers may be nested; the root container is 1
 abbrev pub deepest : ℕ
-deepest = 32
+deepest = 64
 
 -- the most keys that a key table has room for
 abbrev pub mostKeys : ℕ

@@ -5,10 +5,10 @@ pub const LEAST_BINARY: usize = 12;
 
 pub const LEAST_FRACTURED: usize = 4;
 
-pub const LONGEST: usize = 65536;
+pub const LONGEST: usize = 16777216;
 
 // How deep containers may be nested; the root container is 1.
-pub const DEEPEST: usize = 32;
+pub const DEEPEST: usize = 64;
 
 // The most keys that a key table has room for.
 pub const MOST_KEYS: usize = 4096;

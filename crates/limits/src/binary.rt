@@ -1,4 +1,4 @@
-// BinaryJson: the longest document and one byte more, the deepest and one level more.
+// BinaryJson: the deepest document and one level more.
 use crate::documents::put_four;
 use crate::say::say;
 use crate::say::verdict;
@@ -7,15 +7,6 @@ fn check(case: &[u8], doc: &[u8]) {
     say(case);
     verdict(binary_json::check(doc));
     say(b"\n");
-}
-
-// An empty array, and one unused string of zeros up to `end`, the document's length.
-fn put_string(doc: &mut [u8], end: u32) {
-    put_four(doc, 0, 0x101);
-    put_four(doc, 8, 1);
-    if end < 0x800_0000 {
-        put_four(doc, 12, 32 * end);
-    }
 }
 
 // The array at level i: its Meta, and its Entry, which names the next.
@@ -34,33 +25,19 @@ fn put_levels(doc: &mut [u8], last: u8) {
     }
 }
 
-fn longest() {
-    let mut doc = [0u8; 65536];
-    put_string(&mut doc, 65536);
-    check(b"B length 65536 = ", &doc);
-}
-
-fn too_long() {
-    let mut doc = [0u8; 65537];
-    put_string(&mut doc, 65537);
-    check(b"B length 65537 = ", &doc);
-}
-
 fn deepest() {
-    let mut doc = [0u8; 260];
-    put_levels(&mut doc, 31);
-    check(b"B depth 32 = ", &doc);
+    let mut doc = [0u8; 516];
+    put_levels(&mut doc, 63);
+    check(b"B depth 64 = ", &doc);
 }
 
 fn too_deep() {
-    let mut doc = [0u8; 268];
-    put_levels(&mut doc, 32);
-    check(b"B depth 33 = ", &doc);
+    let mut doc = [0u8; 524];
+    put_levels(&mut doc, 64);
+    check(b"B depth 65 = ", &doc);
 }
 
 pub(crate) fn run() {
-    longest();
-    too_long();
     deepest();
     too_deep();
 }

@@ -1,4 +1,4 @@
-// Fractured JSON: lengths, depths, strings, keys, indices and the key table.
+// Fractured JSON: depths, strings, keys, indices and the key table.
 use crate::documents::put;
 use crate::documents::put_run;
 use crate::documents::put_two;
@@ -62,26 +62,6 @@ fn open(doc: &mut [u8], root: u8) {
     put(doc, 3, root);
 }
 
-// ---- lengths
-
-// A string of n zeros, with a length of two bytes.
-fn put_string(doc: &mut [u8], n: u16) {
-    open(doc, 0x0E);
-    put_two(doc, 4, n);
-}
-
-fn longest() {
-    let mut doc = [0u8; 65536];
-    put_string(&mut doc, 65530);
-    check(b"F length 65536 = ", &doc);
-}
-
-fn too_long() {
-    let mut doc = [0u8; 65537];
-    put_string(&mut doc, 65531);
-    check(b"F length 65537 = ", &doc);
-}
-
 // ---- depths
 
 // Arrays in each other from byte 3 on: the last, which is empty, is at `last`.
@@ -92,15 +72,15 @@ fn put_levels(doc: &mut [u8], last: usize) {
 }
 
 fn deepest() {
-    let mut doc = [0u8; 35];
-    put_levels(&mut doc, 34);
-    check(b"F depth 32 = ", &doc);
+    let mut doc = [0u8; 67];
+    put_levels(&mut doc, 66);
+    check(b"F depth 64 = ", &doc);
 }
 
 fn too_deep() {
-    let mut doc = [0u8; 36];
-    put_levels(&mut doc, 35);
-    check(b"F depth 33 = ", &doc);
+    let mut doc = [0u8; 68];
+    put_levels(&mut doc, 67);
+    check(b"F depth 65 = ", &doc);
 }
 
 // ---- strings of 87 and 88 bytes
@@ -198,8 +178,6 @@ fn one_key_more() {
 }
 
 pub(crate) fn run() {
-    longest();
-    too_long();
     deepest();
     too_deep();
     longest_tiny();
