@@ -6,12 +6,12 @@
 
 #include "czubrotek.h"
 
-enum { longest = 65537, most_keys = 4096, untouched = 77 };
+enum { longest = 16777216, deepest = 64, most_keys = 4096, untouched = 77 };
 
 /* key lists: without names, and with the names "a" and "bc" */
 static const uint8_t no_names[] = {0, 0, 0}, a_bc[] = {0, 2, 0, 1, 0, 'a', 2, 0, 'b', 'c'};
 
-static uint8_t doc[longest];
+static uint8_t doc[longest + 1];
 static size_t len;
 static uint32_t keys[2 * most_keys];
 static uint64_t out[5];
@@ -217,24 +217,25 @@ static void object(unsigned members) {
 
 static void limits(void) {
     start("81010000200000000200000000000000");
-    fill(0, 65536 - len);
-    binary_accepts("65,536 bytes");
+    fill(0, longest - len);
+    binary_accepts("the longest document");
     put(0);
-    EXPECT("65,537 bytes", binary(), 2, 65537);
-    start("464A010FF8FF0000");
-    fill('x', 65536 - len);
-    EXPECT("FJ of 65,536 bytes", fractured(2 * most_keys), 0, 0);
+    EXPECT("one byte more", binary(), 2, longest + 1);
+    start("464A010F");
+    word(longest - 8);
+    fill('x', longest - len);
+    EXPECT("the longest FJ document", fractured(2 * most_keys), 0, 0);
     put(0);
-    EXPECT("FJ of 65,537 bytes", fractured(2 * most_keys), 32, 65537, 0);
+    EXPECT("FJ of one byte more", fractured(2 * most_keys), 32, longest + 1, 0);
 
-    nested(32);
-    binary_accepts("depth 32");
-    nested(33);
-    EXPECT("depth 33", binary(), 12, 260);
-    fractured_nested(32);
-    EXPECT("FJ of depth 32", fractured(2 * most_keys), 0, 0);
-    fractured_nested(33);
-    EXPECT("FJ of depth 33", fractured(2 * most_keys), 41, 35, 0);
+    nested(deepest);
+    binary_accepts("the deepest document");
+    nested(deepest + 1);
+    EXPECT("one level more", binary(), 12, 4 + 8 * deepest);
+    fractured_nested(deepest);
+    EXPECT("the deepest FJ document", fractured(2 * most_keys), 0, 0);
+    fractured_nested(deepest + 1);
+    EXPECT("FJ of one level more", fractured(2 * most_keys), 41, 3 + deepest, 0);
 
     start("464A016D");
     fill('x', 87);
