@@ -5,6 +5,7 @@
    01, "Numbers of refusal", and document 02, L1) and writes its place over the first. The words that it does not write keep
    what they held.
    Where fewer words are lent than the call needs, it returns CZUBROTEK_TOO_FEW and writes nothing at all.
+   A good document has at most 16,777,216 bytes, and its containers nest at most 64 levels deep.
 
    A pointer must be good for the length that follows it and not be null, even where that length is 0. What is lent to be
    written must not overlap anything else that is lent. Link with libexports.a, which `rt staticlib exports` makes. */

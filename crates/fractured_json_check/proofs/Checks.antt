@@ -3,7 +3,6 @@ use mathlib.Core.Path.{_≡_, refl, sym, ap, _∙_}
 use mathlib.Core.Bool.{Bool, true, false}
 use mathlib.Core.List.{List, []}
 use Prim.Native.Nat.{ℕ, zero, suc, _^_, _<_}
-use native.Mathlib.Omega.{arith}
 use borrow.Author.Needs.{needs}
 use lib.Dec.{eqb, eqb-refl}
 use lib.ListN.{length, replicate}
@@ -12,6 +11,7 @@ use Rattle.json.specs.Reading.{Outcome, halt, done, Asked, ask, answers, refuse
 use Rattle.json.specs.declared.Refusal.{Refusal}
 use Rattle.json.specs.declared.Verdict.{Verdict}
 use Rattle.json.proofs.Reading.{then, stops, need-yes, need-no}
+use Rattle.json.proofs.Sizes.{word-holds}
 use Rattle.fractured_json_rules.specs.Meaning.{Keys}
 use Rattle.fractured_json_rules.specs.KeyList.{namesFrom, countIn, keyList}
 use Rattle.fractured_json_rules.specs.Verdict.{header, inTurn, value, checkKey, document, check}
@@ -61,9 +61,9 @@ closes words len (done a ks) = go (eqb a len)
     go true = refl
     go false = refl
 
--- the header passes, and so the document is short
+-- the header passes, and so every place and length fits a word of the key table
 pub document-short : (doc : List ℕ) (v : Verdict) → told v ≡ ask (header doc) → v ≡ Verdict.Accepted → length doc < 2 ^ 32
-document-short doc v h e = let o = header-opens doc (sym h ∙ ap told e) in let l = o .short in omega arith
+document-short doc v h e = let o = header-opens doc (sym h ∙ ap told e) in word-holds (length doc) (o .short)
 
 module _ (doc : List ℕ) (names : ℕ) (words : List ℕ) (v : Verdict) (h : told v ≡ ask (header doc)) where
   pub header-refused : (r : Refusal) (c : Answer) → v ≡ Verdict.Refused r → told (c .verdict) ≡ refuses (r .number) (r .place) → c .count ≡ 0 → toldChecked c words ≡ checkedBy words (document (roomOf words) doc names [])

@@ -1,20 +1,20 @@
 -- Small key lists and documents with what the checks and the questions say of them: each number of refusal with its place and the
 -- pairs of the keys passed until then, and good answers of each question. 32 is shown for every document that is too long.
-use Prim.Native.Nat.{ℕ, _+_, _-_, _/_, _≤_, _<_}
-use mathlib.Core.List.{List, [], _∷_, _++_, map}
+use Prim.Native.Nat.{ℕ, suc, _+_, _-_, _/_, _≤_, _<_}
+use mathlib.Core.List.{List, [], _∷_, _++_, map, reverse}
 use mathlib.Core.Path.{_≡_, refl, _∙_}
 use native.Mathlib.Omega.{arith}
-use lib.Dec.{leb→le, le→leb}
+use lib.Dec.{eqb, leb→le, le→leb}
 use lib.ListN.{length, replicate}
 use Rattle.json.specs.Bytes.{number, hex}
 use Rattle.json.specs.Choose.{choose}
 use Rattle.json.specs.Limits.{leastFractured, longest, deepest}
 use Rattle.json.specs.Number.{finite}
-use Rattle.json.specs.Reading.{halt, done, follow, _>>=_, need, Asked, ask, answers, refuses}
+use Rattle.json.specs.Reading.{Reading, halt, done, follow, _>>=_, need, Asked, ask, answers, refuses}
 use Rattle.json.specs.Texts.{byNumbers, compareTexts}
 use Rattle.json.proofs.Reading.{then, stops, pass, fail}
 use Rattle.fractured_json_rules.specs.ByteTables.{formOf, keyFormOf}
-use Rattle.fractured_json_rules.specs.Meaning.{Names, Lists}
+use Rattle.fractured_json_rules.specs.Meaning.{Keys, Names, Lists}
 use Rattle.fractured_json_rules.specs.KeyList.{met, namesFrom, keyList, noNames, steps, nameOf}
 use Rattle.fractured_json_rules.specs.Verdict.{header, byteAt, payload, lengthAt, textAt, afterSecond, afterFirst, keyNumberAt, inTurn, member, valueBy, value}
 use Rattle.fractured_json_rules.specs.Verdict.{keyBy, newKey, oldKey, listedKey, checkKey, document, check, verdict}
@@ -182,6 +182,31 @@ pub check-says : map (λ e. checked (e .doc) (e .list) (e .lent)) examples ≡ m
 unfolding follow _>>=_ need choose number finite byNumbers compareTexts formOf keyFormOf header byteAt payload lengthAt textAt afterSecond afterFirst keyNumberAt
     inTurn member valueBy value keyBy met namesFrom keyList newKey oldKey listedKey checkKey document check roomOf stored
 check-says = refl
+
+-- the longest document: a string, with its length in four bytes
+abbrev longString : List ℕ → List ℕ
+longString rest = hex 4 0x464A010F ++ reverse (hex 4 (longest - 8)) ++ rest
+
+no-names : keyList {S = Keys} noNames [] ≡ done tt []
+unfolding need _>>=_ follow number namesFrom keyList
+no-names = refl
+
+module _ (rest : List ℕ) (h : length rest ≡ longest - 8) where
+  headed : header {S = Keys} (longString rest) [] ≡ done tt []
+  unfolding need _>>=_ follow header
+  headed = rw h
+
+  walked : (key : ℕ → Reading Keys ℕ) (levels : ℕ) → value key (suc levels) (longString rest) 3 [] ≡ done longest []
+  unfolding need _>>=_ follow choose number formOf byteAt payload lengthAt textAt valueBy value
+  walked key levels = rw (h, h, h)
+
+  at-its-end : need {S = Keys} (eqb longest (length (longString rest))) 42 longest [] ≡ done tt []
+  unfolding need
+  at-its-end = rw h
+
+  pub longest-good : (room : ℕ) → verdict room (longString rest) noNames ≡ done tt []
+  unfolding document check
+  longest-good room = then _ _ [] no-names ∙ (then _ _ [] headed ∙ (then _ _ [] (walked _ (deepest - 1)) ∙ at-its-end))
 
 -- 32, of any document over the limit
 pub too-long : (room : ℕ) (doc list : List ℕ) (names : Names) → Lists list names → longest < length doc → verdict room doc list ≡ halt 32 (length doc) []

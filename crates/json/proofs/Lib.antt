@@ -1,5 +1,6 @@
 pub mod Number
 pub mod Reading
+pub mod Sizes
 pub mod Texts
 pub mod Tree
 pub mod Bytes
