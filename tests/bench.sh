@@ -1,5 +1,5 @@
 #!/usr/bin/env bash
-# Runs the bench on whole inputs: lines and their ends, long lines, many lines, one endless line, and output that cannot be written.
+# Runs the bench on whole inputs: lines and their ends, long lines, deep frames, many lines, one endless line, and output that cannot be written.
 set -euo pipefail
 cd "$(dirname "$0")/.."
 work=$(mktemp -d)
@@ -36,6 +36,12 @@ zeros() { head -c "$1" /dev/zero | tr '\0' 0; }
 { zeros 32768; echo; zeros 32767; echo; zeros 32769; echo; zeros 32767; echo Z; zeros 32768; printf '\r\n'; } >"$work/in"
 printf 'frames\n1 B no 3 0\n2 hex\n3 long\n4 hex\n5 long\ntotal 5 ok 0\n' >"$work/want"
 same 'long before hex'
+
+# arrays in each other, 64 and 65 levels: a frame may be as deep as any document
+levels() { printf 464A01; printf '9F%.0s' $(seq 2 "$1"); echo 9E; }
+{ levels 64; levels 65; } >"$work/in"
+printf 'frames\n1 F ok\n2 F no 41 67\ntotal 2 ok 1\n' >"$work/want"
+same 'levels'
 
 # many lines, which end at every place of a block
 lines=200000
