@@ -30,7 +30,7 @@ impl Refusal {
     pub fn meaning(&self) -> &'static str {
         match self.number {
             1 => "under 12 bytes",
-            2 => "over 65,536 bytes",
+            2 => "over 16,777,216 bytes",
             3 => "version not 1",
             4 => {
                 "string index offset S under 8, no multiple of 4, or S+4 past the end, or slots pass the end"
@@ -47,7 +47,7 @@ impl Refusal {
             }
             10 => "used number not finite",
             11 => "KeyEntry not a slot, or not above the one before",
-            12 => "containers nested over 32",
+            12 => "containers nested over 64",
             13 => "tree ends before the string index",
             20 => {
                 "a word, body, slot, text or number outside its area or out of step, or an FJ cursor under 3"
@@ -55,7 +55,7 @@ impl Refusal {
             21 => "the wrong kind, a Meta kind over 2, or an Entry type over 5",
             22 => "index at or past the size",
             31 => "under 4 bytes",
-            32 => "over 65,536 bytes",
+            32 => "over 16,777,216 bytes",
             33 => "first bytes not 46 4A",
             34 => "config not 01",
             35 => "bytes of a value or key run out",
@@ -64,7 +64,7 @@ impl Refusal {
             38 => "key index not found",
             39 => "immediate text met before",
             40 => "no room in key table",
-            41 => "nested over 32",
+            41 => "nested over 64",
             42 => "bytes after the root",
             43 => "float not finite",
             51 => "key list: config not 0",
@@ -98,7 +98,7 @@ mod tests {
     fn each_number_has_its_sentence() {
         let sentences = [
             (1, "under 12 bytes"),
-            (2, "over 65,536 bytes"),
+            (2, "over 16,777,216 bytes"),
             (3, "version not 1"),
             (
                 4,
@@ -121,7 +121,7 @@ mod tests {
             ),
             (10, "used number not finite"),
             (11, "KeyEntry not a slot, or not above the one before"),
-            (12, "containers nested over 32"),
+            (12, "containers nested over 64"),
             (13, "tree ends before the string index"),
             (
                 20,
@@ -133,7 +133,7 @@ mod tests {
             ),
             (22, "index at or past the size"),
             (31, "under 4 bytes"),
-            (32, "over 65,536 bytes"),
+            (32, "over 16,777,216 bytes"),
             (33, "first bytes not 46 4A"),
             (34, "config not 01"),
             (35, "bytes of a value or key run out"),
@@ -142,7 +142,7 @@ mod tests {
             (38, "key index not found"),
             (39, "immediate text met before"),
             (40, "no room in key table"),
-            (41, "nested over 32"),
+            (41, "nested over 64"),
             (42, "bytes after the root"),
             (43, "float not finite"),
             (51, "key list: config not 0"),

@@ -5,6 +5,9 @@ mod common;
 use common::hex;
 use czubrotek::fractured_json::{Document, Key, KeyList, KeyOffset, Lender, ValueOffset};
 
+/// One byte more than a document may have.
+const TOO_LONG: usize = 16_777_217;
+
 /// Asks of the key at 4 of an object of one; answers whether it could be read.
 fn same(key: &[u8], list: KeyList, (words, count): (&[u32], usize)) -> bool {
     let bytes = [b"\x46\x4A\x01\x6F", key].concat();
@@ -125,7 +128,7 @@ fn before_the_key() {
         (refusal.number, refusal.place)
     };
     assert_eq!(at(b"", 4), (31, 0));
-    assert_eq!(at(&[0; 65_537], 4), (32, 65_537));
+    assert_eq!(at(&vec![0; TOO_LONG], 4), (32, TOO_LONG as u64));
     assert_eq!(at(b"\x46\x4B\x01\x00", 3), (33, 0));
     assert_eq!(at(b"\x46\x4A\x11\x00", 3), (34, 2));
     assert_eq!(at(b"\x46\x4A\x01\x03", 2), (20, 2));

@@ -6,6 +6,17 @@ use common::hex;
 use czubrotek::{Refusal, binary_json, fractured_json};
 use fractured_json::KeyTable;
 
+/// The longest document of either format, in bytes.
+const LONGEST: usize = 16_777_216;
+
+/// How deep containers may nest.
+const DEEPEST: usize = 64;
+
+/// The bytes of words.
+fn little_endian(words: &[u32]) -> Vec<u8> {
+    words.iter().flat_map(|word| word.to_le_bytes()).collect()
+}
+
 /// The verdict on a BinaryJson document: nothing, or the refusal's number and place.
 fn binary(bytes: &[u8]) -> Option<(u32, u64)> {
     let refusal = binary_json::Document::check(bytes).err()?;
@@ -138,45 +149,129 @@ fn lookups_with_counts() {
 
 #[test]
 fn lengths() {
-    // [null] and 8,190 unused numbers
+    // [null] and unused numbers
     let mut bytes = hex("81010000200000000200000000000000");
-    bytes.resize(65_536, 0);
+    bytes.resize(LONGEST, 0);
     assert_eq!(binary_means(&bytes), "[null]");
     bytes.push(0);
-    assert_eq!(binary(&bytes), Some((2, 65_537)));
+    assert_eq!(binary(&bytes), Some((2, LONGEST as u64 + 1)));
 
-    // a string of 65,528 bytes
-    let mut bytes = hex("464A010FF8FF0000");
-    bytes.resize(65_536, b'x');
+    // a string of 16,777,208 bytes
+    let mut bytes = hex("464A010FF8FFFF00");
+    bytes.resize(LONGEST, b'x');
     assert_eq!(fractured(&bytes), None);
     bytes.push(0);
-    assert_eq!(fractured(&bytes), Some((32, 65_537)));
+    assert_eq!(fractured(&bytes), Some((32, LONGEST as u64 + 1)));
+}
+
+#[test]
+fn the_last_bytes_of_the_longest_binary_json() {
+    use binary_json::{Document, SlotOffset, Value};
+    // {"x...x":"y"}: the tree up to 16, both slots up to 28, then the texts; "y" ends at the last byte
+    let past = LONGEST as u32 - 2;
+    let mut bytes = little_endian(&[
+        1 + 32 * 16,
+        1 + 32,
+        20,
+        3 + 32 * 24,
+        2,
+        32 * past,
+        32 * (past + 2),
+    ]);
+    bytes.resize(LONGEST, b'x');
+    bytes[past as usize - 1..].copy_from_slice(b"\0y\0");
+    let document = Document::check(&bytes).unwrap();
+    let entry = document.member(document.root(), 0).unwrap().entry;
+    let range = past as usize..LONGEST - 1;
+    assert_eq!(document.string_range(entry), Ok(range.clone()));
+    assert_eq!(document.slot_range(SlotOffset(24)), Ok(range));
+    assert_eq!(document.string(entry), Ok(&b"y"[..]));
+    let Ok(Value::Object(object)) = document.value() else {
+        panic!("no object");
+    };
+    let key = vec![b'x'; LONGEST - 31];
+    assert!(matches!(object.member(0), Ok((k, Value::String(b"y"))) if k == key));
+    assert!(matches!(object.get(&key), Ok(Some(Value::String(b"y")))));
+    assert!(matches!(object.get(&key[1..]), Ok(None)));
+    assert_eq!(document.plain_scan(document.root(), &key), Ok(Some(entry)));
+
+    // [0.0,...,-1.5], each Entry with a number of its own; the last number ends at the last byte
+    let n = 1_398_099;
+    let index = 8 + 4 * n;
+    let mut words = vec![1 + 32 * index, 32 * n];
+    words.extend((0..n).map(|i| 4 + 32 * (LONGEST as u32 - 8 * (n - i))));
+    words.push(0);
+    let mut bytes = little_endian(&words);
+    bytes.resize(LONGEST - 8, 0);
+    bytes.extend((-1.5_f64).to_le_bytes());
+    let document = Document::check(&bytes).unwrap();
+    let Ok(Value::Array(array)) = document.value() else {
+        panic!("no array");
+    };
+    assert_eq!(array.len(), n as usize);
+    let last = array.element(n as usize - 1);
+    assert!(matches!(last, Ok(Value::Number(x)) if x.to_f64() == -1.5));
+    assert_eq!(array.element(n as usize).err().map(|r| r.number), Some(22));
+}
+
+#[test]
+fn the_last_bytes_of_the_longest_fractured_json() {
+    use fractured_json::{Document, Number, Value};
+    // an array of nulls whose last element, 31, is the last byte
+    let n = LONGEST - 8;
+    let mut bytes = hex("464A0115F8FFFF00");
+    bytes.resize(LONGEST, 0x00);
+    bytes[LONGEST - 1] = 0xFD;
+    let document = Document::check(&bytes, &mut []).unwrap();
+    let last = document.element(document.root(), n - 1).unwrap();
+    assert_eq!(last.0, LONGEST as u64 - 1);
+    assert_eq!(document.number(last), Ok(Number::Int(31)));
+    assert_eq!(document.end(document.root()), Ok(LONGEST as u64));
+    let Ok(Value::Array(array)) = document.value() else {
+        panic!("no array");
+    };
+    assert_eq!(array.len(), n);
+    let last = array.element(n - 1);
+    assert!(matches!(last, Ok(Value::Number(Number::Int(31)))));
+
+    // {"a":"x...x","b":{"b":true}}: the second "b" is a back reference, to a pair near the end
+    let text = vec![b'x'; LONGEST - 16];
+    let head = hex("464A017004610FF0FFFF00");
+    let bytes = [&head[..], &text, &hex("04626F5802")].concat();
+    assert_eq!(bytes.len(), LONGEST);
+    let mut words = [0; 4];
+    let document = Document::check(&bytes, &mut words).unwrap();
+    assert_eq!(document.words(), [5, 1, LONGEST as u32 - 4, 1]);
+    let Ok(Value::Object(object)) = document.value() else {
+        panic!("no object");
+    };
+    assert!(matches!(object.get(b"a"), Ok(Some(Value::String(t))) if t == text));
+    let Ok(Some(Value::Object(inner))) = object.get(b"b") else {
+        panic!("no object");
+    };
+    assert!(matches!(inner.get(b"b"), Ok(Some(Value::Bool(true)))));
 }
 
 #[test]
 fn depths() {
+    let whole = "[".repeat(DEEPEST) + &"]".repeat(DEEPEST);
     // arrays of one that name the next, the last empty
-    let nested = |depth: u32| {
+    let nested = |depth: usize| {
+        let depth = depth as u32;
         let index = 4 + 8 * (depth - 1) + 4;
         let mut words = vec![1 + 32 * index];
         for level in 1..depth {
             words.extend([32, 5 + 32 * (4 + 8 * level)]);
         }
         words.extend([0, 0]);
-        words
-            .iter()
-            .flat_map(|word| word.to_le_bytes())
-            .collect::<Vec<u8>>()
+        little_endian(&words)
     };
-    assert_eq!(binary_means(&nested(32)), "[".repeat(32) + &"]".repeat(32));
-    assert_eq!(binary(&nested(33)), Some((12, 260)));
+    assert_eq!(binary_means(&nested(DEEPEST)), whole);
+    assert_eq!(binary(&nested(DEEPEST + 1)), Some((12, 516)));
 
     let nested = |depth: usize| [&hex("464A01")[..], &vec![0x9F; depth - 1], &[0x9E]].concat();
-    assert_eq!(
-        fractured_means(&nested(32)),
-        "[".repeat(32) + &"]".repeat(32)
-    );
-    assert_eq!(fractured(&nested(33)), Some((41, 35)));
+    assert_eq!(fractured_means(&nested(DEEPEST)), whole);
+    assert_eq!(fractured(&nested(DEEPEST + 1)), Some((41, 67)));
 }
 
 #[test]

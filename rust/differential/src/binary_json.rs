@@ -1,13 +1,14 @@
 //! BinaryJson documents that keep the rules, but for numbers that are not finite by chance.
 
+use crate::DEEPEST;
 use crate::random::Random;
 use documents::Tree;
 
 /// The texts and numbers that a document is made of.
-struct Pool {
+pub(crate) struct Pool {
     /// Ascending, none twice.
-    texts: Vec<Vec<u8>>,
-    numbers: Vec<u64>,
+    pub(crate) texts: Vec<Vec<u8>>,
+    pub(crate) numbers: Vec<u64>,
 }
 
 impl Pool {
@@ -20,13 +21,13 @@ impl Pool {
     }
 
     /// All of it, to stand in the document used or not.
-    fn tree(&self) -> Tree {
+    pub(crate) fn tree(&self) -> Tree {
         let texts = self.texts.iter().cloned().map(Tree::Text);
         let numbers = self.numbers.iter().copied().map(Tree::Number);
         Tree::Array(texts.chain(numbers).collect())
     }
 
-    fn value(&self, random: &mut Random, levels: usize) -> Tree {
+    pub(crate) fn value(&self, random: &mut Random, levels: usize) -> Tree {
         match random.below(9) {
             0 | 1 if !self.texts.is_empty() => {
                 Tree::Text(self.texts[random.below(self.texts.len())].clone())
@@ -40,7 +41,7 @@ impl Pool {
         }
     }
 
-    fn container(&self, random: &mut Random, levels: usize) -> Tree {
+    pub(crate) fn container(&self, random: &mut Random, levels: usize) -> Tree {
         if random.once_in(2) {
             let n = random.below(5);
             return Tree::Array((0..n).map(|_| self.value(random, levels - 1)).collect());
@@ -58,7 +59,7 @@ impl Pool {
     }
 
     /// A chain of `levels` containers, arrays and objects.
-    fn chain(&self, random: &mut Random, levels: usize) -> Tree {
+    pub(crate) fn chain(&self, random: &mut Random, levels: usize) -> Tree {
         let inner = match levels {
             1 => self.value(random, 0),
             _ => self.chain(random, levels - 1),
@@ -78,7 +79,7 @@ pub fn document(random: &mut Random) -> Vec<u8> {
     let tree = match random.below(12) {
         0 => pool.value(random, 0),
         1 => {
-            let levels = 29 + random.below(6);
+            let levels = DEEPEST - 3 + random.below(6);
             pool.chain(random, levels)
         }
         _ => pool.container(random, 5),

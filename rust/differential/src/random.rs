@@ -35,6 +35,13 @@ impl Random {
         (0..len).map(|_| self.pick(b"aab\0\xFF")).collect()
     }
 
+    /// At most `most` items that stand beside each other.
+    pub fn part<'a, T>(&mut self, items: &'a [T], most: usize) -> &'a [T] {
+        let start = self.below(items.len() + 1);
+        let end = (start + self.below(most + 1)).min(items.len());
+        &items[start..end]
+    }
+
     /// The bits of a binary64, finite but once in `spoilt` times.
     pub fn float(&mut self, spoilt: usize) -> u64 {
         if self.once_in(spoilt) {

@@ -2,12 +2,17 @@
 
 use crate::random::Random;
 
-/// Spoils a document once.
+/// Spoils a document once, anywhere.
 pub fn spoil(random: &mut Random, doc: &mut Vec<u8>) {
     if doc.is_empty() {
         return doc.push(random.bits() as u8);
     }
     let at = random.below(doc.len());
+    spoil_at(random, doc, at);
+}
+
+/// Spoils a document once, at a byte of it or at the word there.
+pub fn spoil_at(random: &mut Random, doc: &mut Vec<u8>, at: usize) {
     let word = at / 4 * 4;
     match random.below(12) {
         0 => doc[at] ^= 1 << random.below(8),

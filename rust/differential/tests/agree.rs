@@ -1,35 +1,12 @@
 //! Every verdict, place and key-table word, and every question at every cursor, of the proved and the plain readers.
 
-use differential::exports;
+use differential::compare::{
+    Lent, Verdicts, binary_json_at, check_fractured_json, for_all_seeds, fractured_json_at, missed,
+    number,
+};
 use differential::random::Random;
 use differential::spoil::spoil;
-use differential::{INDICES, cursors, documents, first_seed, hex};
-use std::thread;
-
-/// Compares one answer, and prints the document if it differs.
-macro_rules! same {
-    ($doc:expr, $proved:expr, $plain:expr, $($what:tt)*) => {
-        let (proved, plain) = ($proved, $plain);
-        assert!(
-            proved == plain,
-            "{}: proved {proved:?}, plain {plain:?}\n{}",
-            format!($($what)*),
-            hex($doc)
-        );
-    };
-}
-
-/// Asks `proved` and `plain` the same questions of a document, and compares the answers.
-macro_rules! both {
-    ($seed:expr, $doc:ident: $($question:ident($($argument:expr),*)),*) => {
-        $(same!(
-            $doc,
-            proved::$question($doc, $($argument),*),
-            plain::$question($doc, $($argument),*),
-            "seed {} {}{:?}", $seed, stringify!($question), ($(&$argument,)*)
-        );)*
-    };
-}
+use differential::{INDICES, LONGEST, both, cursors, documents, exports, same};
 
 /// A document of a seed: as made, or spoilt once or a few times.
 fn made(random: &mut Random, document: impl FnOnce(&mut Random) -> Vec<u8>) -> Vec<u8> {
@@ -44,52 +21,14 @@ fn made(random: &mut Random, document: impl FnOnce(&mut Random) -> Vec<u8>) -> V
 fn sought(random: &mut Random, doc: &[u8]) -> Vec<Vec<u8>> {
     let mut keys = vec![random.text(3), random.text(3)];
     for _ in 0..2 {
-        let start = random.below(doc.len() + 1);
-        let end = (start + random.below(5)).min(doc.len());
-        keys.push(doc[start..end].to_vec());
+        keys.push(random.part(doc, 4).to_vec());
     }
     keys
 }
 
-/// Runs `one` for every seed, on every processor, and counts the verdicts by their number, 0 for acceptance.
-fn for_all_seeds(one: fn(u64) -> usize) -> [u64; 64] {
-    let (first, count) = (first_seed(), documents());
-    let workers = thread::available_parallelism().map_or(1, |n| n.get() as u64);
-    let runs: Vec<_> = (0..workers)
-        .map(|w| {
-            thread::spawn(move || {
-                let mut verdicts = [0; 64];
-                for seed in (first + w..first + count).step_by(workers as usize) {
-                    verdicts[one(seed)] += 1;
-                }
-                verdicts
-            })
-        })
-        .collect();
-    let mut verdicts = [0; 64];
-    for run in runs {
-        let part = run.join().expect("a document on which the readers differ");
-        for (all, some) in verdicts.iter_mut().zip(part) {
-            *all += some;
-        }
-    }
-    verdicts
-}
-
-/// The number of a verdict, 0 for acceptance.
-fn number(verdict: plain::Answer<()>) -> usize {
-    verdict.map_or_else(|r| r.number as usize, |()| 0)
-}
-
 /// Every verdict of a format must have come up, or the documents do not show what they should.
-fn all_met(format: &str, verdicts: &[u64; 64], numbers: impl Iterator<Item = usize>) {
-    let met = |n: &usize| verdicts[*n] > 0;
-    println!(
-        "{format}: {} documents, {} accepted",
-        documents(),
-        verdicts[0]
-    );
-    let missed: Vec<usize> = numbers.filter(|n| !met(n)).collect();
+fn all_met(format: &str, verdicts: Verdicts, numbers: impl Iterator<Item = usize>) {
+    let missed = missed(format, &verdicts, numbers);
     assert!(
         missed.is_empty() || documents() < 100_000,
         "{format}: no document was refused with {missed:?}"
@@ -105,14 +44,7 @@ fn binary_json(seed: u64) -> usize {
     same!(doc, verdict, plain::check(doc), "seed {seed} check");
     let keys = sought(random, doc);
     for at in cursors(doc.len()) {
-        both!(seed, doc: kind_and_size(at), entry_type(at), container(at));
-        both!(seed, doc: string(at), number(at), slot(at));
-        for i in INDICES {
-            both!(seed, doc: element(at, i), member(at, i));
-        }
-        for key in &keys {
-            both!(seed, doc: quick_lookup(at, key), plain_scan(at, key));
-        }
+        binary_json_at(seed, doc, at, &INDICES, &keys);
     }
     number(verdict)
 }
@@ -127,35 +59,21 @@ fn fractured_json(seed: u64) -> usize {
     let doc = &made(random, |random| make::document(random, &names))[..];
     both!(seed, list: check_list());
     let mut table = make::table(random);
-    let mut other = table.clone();
-    let checked = proved::check(doc, list, &mut table);
-    let plainly = plain::check(doc, list, &mut other);
-    same!(
-        doc,
-        (checked, &table),
-        (plainly, &other),
-        "seed {seed} check with the key list {}",
-        hex(list)
-    );
+    let checked = check_fractured_json(seed, doc, list, &mut table);
     let mut count = checked.count;
     if random.once_in(4) {
         // any words and any count may be handed in
         table = make::table(random);
         count = random.pick(&[0, 1, 2, 3, 6, 4096, 4097, u64::MAX]);
     }
-    let (mut keys, table) = (sought(random, doc), &table[..]);
+    let mut keys = sought(random, doc);
     if !names.is_empty() {
         keys[0] = names[random.below(names.len())].clone();
     }
+    let table = &table;
+    let lent = Lent { list, table, count };
     for at in cursors(doc.len()) {
-        both!(seed, doc: end(list, table, count, at), kind(list, at), number(list, at), string(list, at));
-        both!(seed, doc: key(list, table, count, at));
-        for i in INDICES {
-            both!(seed, doc: element(list, table, count, at, i), member(list, table, count, at, i));
-        }
-        for key in &keys {
-            both!(seed, doc: first_member(list, table, count, at, key));
-        }
+        fractured_json_at(seed, doc, lent, at, &INDICES, &keys);
     }
     number(checked.verdict)
 }
@@ -164,16 +82,16 @@ fn fractured_json(seed: u64) -> usize {
 
 #[test]
 fn binary_json_agrees() {
-    let verdicts = for_all_seeds(binary_json);
-    all_met("BinaryJson", &verdicts, (0..=13).filter(|&n| n != 2));
+    let verdicts = for_all_seeds(documents(), binary_json);
+    all_met("BinaryJson", verdicts, (0..=13).filter(|&n| n != 2));
 }
 
 #[test]
 fn fractured_json_agrees() {
-    let verdicts = for_all_seeds(fractured_json);
+    let verdicts = for_all_seeds(documents(), fractured_json);
     all_met(
         "Fractured JSON",
-        &verdicts,
+        verdicts,
         [0].into_iter()
             .chain(31..=43)
             .chain(51..=54)
@@ -181,27 +99,75 @@ fn fractured_json_agrees() {
     );
 }
 
-/// Documents at the longest length and one byte more.
+/// Documents at the longest length and a few bytes more or less, with what matters at their very end.
 #[test]
 fn longest_documents_agree() {
-    for len in 65_534..=65_538 {
-        let mut binary = vec![0; len];
-        binary[..12].copy_from_slice(&[1, 1, 0, 0, 0, 0, 0, 0, 0, 0, 0, 0]);
-        same!(
-            &binary[..12],
-            exports::binary_json::check(&binary),
-            plain::binary_json::check(&binary),
-            "length {len}"
-        );
-        let mut fractured = b"FJ\x01\x0E".to_vec();
-        fractured.extend(((len - 6) as u16).to_le_bytes());
-        fractured.resize(len, 0x61);
-        same!(
-            &fractured[..6],
-            exports::fractured_json::check(&fractured, &[0, 0, 0], &mut []),
-            plain::fractured_json::check(&fractured, &[0, 0, 0], &mut []),
-            "length {len}"
-        );
+    // one buffer for all of them
+    let mut buffer = vec![b'x'; LONGEST + 2];
+    for len in LONGEST - 2..=LONGEST + 2 {
+        longest_binary_json_agrees(&mut buffer[..len]);
+        longest_fractured_json_agrees(&mut buffer[..len]);
+    }
+}
+
+/// The verdict on a document that is too long.
+fn refused(number: u32, len: usize) -> plain::Answer<()> {
+    let place = len as u64;
+    Err(plain::Refusal { number, place })
+}
+
+/// [-1.5,"x...x"]: one text from 24 on, and the number in the last eight bytes.
+fn longest_binary_json_agrees(doc: &mut [u8]) {
+    use exports::binary_json as proved;
+    use plain::binary_json as plain;
+    let len = doc.len();
+    let number = -1.5_f64;
+    let last = len as u32 - 8;
+    let words = [
+        1 + 32 * 16,
+        32 * 2,
+        4 + 32 * last,
+        3 + 32 * 20,
+        1,
+        32 * last,
+    ];
+    for (bytes, word) in doc.chunks_mut(4).zip(words) {
+        bytes.copy_from_slice(&u32::to_le_bytes(word));
+    }
+    doc[24..len - 9].fill(b'x');
+    doc[len - 9] = 0;
+    doc[len - 8..].copy_from_slice(&number.to_le_bytes());
+    let doc = &doc[..];
+    both!(len, doc: check(), number(8), string(12), slot(20), element(4, 1));
+    if len > LONGEST {
+        assert_eq!(proved::check(doc), refused(2, len));
+    } else {
+        assert_eq!(proved::check(doc), Ok(()));
+        assert_eq!(proved::number(doc, 8), Ok(number.to_bits()));
+        assert_eq!(proved::string(doc, 12), Ok((24, len as u64 - 33)));
+    }
+}
+
+/// ["x...x",31]: a string with a length of four bytes, and the number in the last byte.
+fn longest_fractured_json_agrees(doc: &mut [u8]) {
+    use exports::fractured_json as proved;
+    use plain::fractured_json as plain;
+    let len = doc.len();
+    doc[..5].copy_from_slice(b"FJ\x01\xA0\x0F");
+    doc[5..9].copy_from_slice(&(len as u32 - 10).to_le_bytes());
+    doc[9..len - 1].fill(b'x');
+    doc[len - 1] = 0xFD;
+    let (doc, list, last) = (&doc[..], &[0, 0, 0][..], len as u64 - 1);
+    both!(len, doc: check(list, &mut [0; 0]), string(list, 4), number(list, last));
+    both!(len, doc: element(list, &[0; 0], 0, 3, 1), end(list, &[0; 0], 0, 3));
+    let verdict = proved::check(doc, list, &mut []).verdict;
+    if len > LONGEST {
+        assert_eq!(verdict, refused(32, len));
+    } else {
+        assert_eq!(verdict, Ok(()));
+        assert_eq!(proved::element(doc, list, &[], 0, 3, 1), Ok(last));
+        assert_eq!(proved::number(doc, list, last), Ok((0xFD, 31)));
+        assert_eq!(proved::string(doc, list, 4), Ok((9, len as u64 - 10)));
     }
 }
 

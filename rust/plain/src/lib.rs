@@ -6,10 +6,10 @@ pub mod binary_json;
 pub mod fractured_json;
 
 /// Longest document of either format, in bytes (rules 2 and 32).
-const MAX_LENGTH: usize = 65_536;
+const MAX_LENGTH: usize = 16_777_216;
 
 /// How many containers may stand inside one another, the outermost being 1 (rules 12 and 41).
-const MAX_DEPTH: u32 = 32;
+const MAX_DEPTH: u32 = 64;
 
 /// A refusal: the number of the failed rule and the place it failed at.
 #[derive(Debug, Clone, Copy, PartialEq, Eq)]

@@ -11,6 +11,12 @@ const UNTOUCHED: u32 = 0xDEAD_BEEF;
 /// A key list without names.
 const NO_NAMES: &[u8] = &[0, 0, 0];
 
+/// The longest document of either format, in bytes.
+const LONGEST: usize = 16_777_216;
+
+/// How deep containers may nest.
+const DEEPEST: usize = 64;
+
 fn from_hex(hex: &str) -> Vec<u8> {
     if hex == "-" {
         return Vec::new();
@@ -694,25 +700,31 @@ fn fj_document(value: &[&[u8]]) -> Vec<u8> {
 
 #[test]
 fn longest_documents() {
-    // BinaryJson: an empty array, no strings, and numbers up to the end.
+    let over = refuse(2, LONGEST as u64 + 1);
+    // BinaryJson: an empty array, one text, and numbers up to the end.
     let mut doc = binary_json_document(&[word(0, 0)], &[b"abc"], &[]);
     assert_eq!(doc.len(), 20);
-    doc.resize(65_540, 0);
-    assert_eq!(binary_json::check(&doc), refuse(2, 65_540));
-    assert_eq!(binary_json::check(&doc[..65_537]), refuse(2, 65_537));
-    assert_eq!(binary_json::check(&doc[..65_536]), refuse(7, 20));
-    assert_eq!(binary_json::check(&doc[..65_532]), Ok(()));
+    doc.resize(LONGEST + 4, 0);
+    assert_eq!(binary_json::check(&doc), refuse(2, LONGEST as u64 + 4));
+    assert_eq!(binary_json::check(&doc[..LONGEST + 1]), over);
+    assert_eq!(binary_json::check(&doc[..LONGEST]), refuse(7, 20));
+    assert_eq!(binary_json::check(&doc[..LONGEST - 4]), Ok(()));
     let mut doc = binary_json_document(&[word(0, 0)], &[b"abcdefg"], &[]);
-    doc.resize(65_537, 0);
-    assert_eq!(binary_json::check(&doc), refuse(2, 65_537));
-    assert_eq!(binary_json::kind_and_size(&doc, 4), refuse(2, 65_537));
-    assert_eq!(binary_json::check(&doc[..65_536]), Ok(()));
-    assert_eq!(binary_json::kind_and_size(&doc[..65_536], 4), Ok((0, 0)));
+    doc.resize(LONGEST + 1, 0);
+    assert_eq!(binary_json::check(&doc), over);
+    assert_eq!(
+        binary_json::kind_and_size(&doc, 4),
+        refuse(2, LONGEST as u64 + 1)
+    );
+    assert_eq!(binary_json::check(&doc[..LONGEST]), Ok(()));
+    assert_eq!(binary_json::kind_and_size(&doc[..LONGEST], 4), Ok((0, 0)));
 
     // FJ: one string with a 32-bit length.
-    for (length, verdict) in [(65_536, Ok(())), (65_537, refuse(32, 65_537))] {
-        let text = vec![b'x'; length - 8];
-        let doc = fj_document(&[&[0x0F], &(text.len() as u32).to_le_bytes(), &text]);
+    for (length, verdict) in [
+        (LONGEST, Ok(())),
+        (LONGEST + 1, refuse(32, LONGEST as u64 + 1)),
+    ] {
+        let doc = fj_document(&[&[0x0F], &len32(length - 8), &vec![b'x'; length - 8]]);
         assert_eq!(doc.len(), length);
         let (checked, _) = fj_check(&doc, NO_NAMES, 0);
         assert_eq!(checked.verdict, verdict);
@@ -720,21 +732,184 @@ fn longest_documents() {
     }
 }
 
+/// Four bytes of a length.
+fn len32(length: usize) -> [u8; 4] {
+    (length as u32).to_le_bytes()
+}
+
+/// Around the last length that two bytes can say.
+const AROUND_16_BITS: [usize; 4] = [65_534, 65_535, 65_536, 65_537];
+
+#[test]
+fn strings_of_a_four_byte_length() {
+    for length in AROUND_16_BITS.into_iter().chain([1 << 20]) {
+        let text: Vec<u8> = (0..length).map(|i| (i % 251) as u8).collect();
+        // The number after the string tells where it ends.
+        let doc = fj_document(&[&[0xA0, 0x0F], &len32(length), &text, &[0x04, 7]]);
+        assert_eq!(fj_check(&doc, NO_NAMES, 0).0.verdict, Ok(()));
+        let after = 9 + length as u64;
+        let kind = fractured_json::kind(&doc, NO_NAMES, 4);
+        assert_eq!(kind, Ok((4, Some(length as u64))));
+        let string = fractured_json::string(&doc, NO_NAMES, 4);
+        assert_eq!(string, Ok((9, length as u64)));
+        let element = fractured_json::element(&doc, NO_NAMES, &[], 0, 3, 1);
+        assert_eq!(element, Ok(after));
+        assert_eq!(fractured_json::number(&doc, NO_NAMES, after), Ok((4, 7)));
+        let end = fractured_json::end(&doc, NO_NAMES, &[], 0, 3);
+        assert_eq!(end, Ok(after + 2));
+        // One byte of the text missing, and one too many.
+        let cut = fj_document(&[&[0x0F], &len32(length), &text[1..]]);
+        assert_eq!(fj_check(&cut, NO_NAMES, 0).0.verdict, refuse(35, 3));
+        let more = fj_document(&[&[0x0F], &len32(length), &text, &[0]]);
+        let verdict = fj_check(&more, NO_NAMES, 0).0.verdict;
+        assert_eq!(verdict, refuse(42, 8 + length as u64));
+    }
+}
+
+#[test]
+fn arrays_of_a_four_byte_length() {
+    for n in AROUND_16_BITS.into_iter().chain([1 << 20]) {
+        let last = n as u64 - 1;
+        // Null in each element but the last.
+        let array = fj_document(&[&[0x15], &len32(n), &vec![0x00; n - 1], &[0xFD]]);
+        assert_eq!(fj_check(&array, NO_NAMES, 0).0.verdict, Ok(()));
+        let kind = fractured_json::kind(&array, NO_NAMES, 3);
+        assert_eq!(kind, Ok((6, Some(n as u64))));
+        let element = |i| fractured_json::element(&array, NO_NAMES, &[], 0, 3, i);
+        assert_eq!(element(last), Ok(8 + last));
+        assert_eq!(element(last + 1), refuse(22, 3));
+        let number = fractured_json::number(&array, NO_NAMES, 8 + last);
+        assert_eq!(number, Ok((0xFD, 31)));
+        let end = fractured_json::end(&array, NO_NAMES, &[], 0, 3);
+        assert_eq!(end, Ok(8 + n as u64));
+        let cut = &array[..array.len() - 1];
+        let verdict = fj_check(cut, NO_NAMES, 0).0.verdict;
+        assert_eq!(verdict, refuse(35, 8 + last));
+    }
+}
+
+#[test]
+fn objects_of_a_four_byte_length() {
+    for n in AROUND_16_BITS.into_iter().chain([1 << 18]) {
+        // "a" in each member but the last, which is "b".
+        let mut object = fj_document(&[&[0x12], &len32(n), &[0x04, b'a', 0x00]]);
+        object.extend([0x57, 0x00].repeat(n - 2));
+        object.extend([0x04, b'b', 0xFD]);
+        let (checked, table) = fj_check(&object, NO_NAMES, 4);
+        let key = 11 + 2 * (n as u64 - 2);
+        assert_eq!((checked.verdict, checked.count), (Ok(()), 2));
+        assert_eq!(table, [9, 1, key as u32 + 1, 1]);
+        let kind = fractured_json::kind(&object, NO_NAMES, 3);
+        assert_eq!(kind, Ok((5, Some(n as u64))));
+        let member = |j| fractured_json::member(&object, NO_NAMES, &table, 2, 3, j);
+        assert_eq!(member(n as u64 - 1), Ok((key, key + 2)));
+        assert_eq!(member(n as u64), refuse(22, 3));
+        let found = |key| fractured_json::first_member(&object, NO_NAMES, &table, 2, 3, key);
+        assert_eq!(found(&b"b"[..]), Ok(Some(key + 2)));
+        assert_eq!(found(b"c"), Ok(None));
+        // A back reference to a key past 65,536, whose pair says so.
+        object.splice(3..3, [0xA0]);
+        object.extend([0x6F, 0x58, 0x02]);
+        let (checked, table) = fj_check(&object, NO_NAMES, 4);
+        assert_eq!((checked.verdict, checked.count), (Ok(()), 2));
+        let second = key + 4;
+        let found = fractured_json::first_member(&object, NO_NAMES, &table, 2, second, b"b");
+        assert_eq!(found, Ok(Some(second + 2)));
+    }
+}
+
+/// A tree, slots, texts and numbers that each take over 65,536 bytes.
+#[test]
+fn far_slots_and_numbers() {
+    let n = 20_000_u32;
+    let texts: Vec<[u8; 4]> = (0..n).map(u32::to_be_bytes).collect();
+    let texts: Vec<&[u8]> = texts.iter().map(|text| &text[..]).collect();
+    let numbers: Vec<u8> = (0..n)
+        .flat_map(|k| f64::from(k).to_bits().to_le_bytes())
+        .collect();
+    // An array of an object, and of all the strings, last first, and numbers.
+    let index = 4 + 4 + 4 * (1 + 2 * n) + 4 + 8 * n;
+    let (first_slot, first_number) = (index + 4, index + 4 + 4 * n + 5 * n);
+    let slot = |k: u32| first_slot + 4 * k;
+    let number = |k: u32| first_number + 8 * k;
+    let object = 4 + 4 + 4 * (1 + 2 * n);
+    let mut tree = vec![word(0, 1 + 2 * n), word(5, object)];
+    tree.extend((0..n).rev().map(|k| word(3, slot(k))));
+    tree.extend((0..n).map(|k| word(4, number(k))));
+    tree.push(word(1, n));
+    tree.extend((0..n).map(|k| slot(k).to_le_bytes()));
+    tree.extend((0..n).map(|k| word(4, number(k))));
+    let doc = binary_json_document(&tree, &texts, &numbers);
+    assert_eq!(doc.len() as u32, number(n));
+    assert_eq!(binary_json::check(&doc), Ok(()));
+
+    let object = u64::from(object);
+    let entry = object + 4 + 4 * u64::from(n);
+    assert_eq!(binary_json::container(&doc, 8), Ok(object));
+    for k in [0, 1, 16_383, 16_384, n - 2, n - 1] {
+        let far = u64::from(k);
+        let text = u64::from(first_slot + 4 * n + 5 * k);
+        let string = binary_json::element(&doc, 4, 1 + u64::from(n - 1 - k)).unwrap();
+        assert_eq!(string, 12 + 4 * u64::from(n - 1 - k));
+        assert_eq!(binary_json::string(&doc, string), Ok((text, 4)));
+        assert_eq!(binary_json::slot(&doc, slot(k).into()), Ok((text, 4)));
+        let member = binary_json::member(&doc, object, far);
+        assert_eq!(member, Ok((slot(k).into(), entry + 4 * far)));
+        let bits = binary_json::number(&doc, entry + 4 * far);
+        assert_eq!(bits, Ok(f64::from(k).to_bits()));
+        let key = &k.to_be_bytes();
+        let scan = binary_json::plain_scan(&doc, object, key);
+        assert_eq!(scan, Ok(Some(entry + 4 * far)));
+        let quick = binary_json::quick_lookup(&doc, object, key);
+        assert_eq!(quick.map(|(found, _, _)| found), scan);
+    }
+    // 20,000 items are halved 14 times to their end.
+    let absent = binary_json::quick_lookup(&doc, object, &n.to_be_bytes());
+    assert_eq!(absent, Ok((None, 14, 0)));
+
+    // The last KeyEntry, Entry, slot, text and number spoilt.
+    let spoilt = |at: u32, bytes: &[u8]| {
+        let mut doc = doc.clone();
+        for (byte, changed) in doc[at as usize..].iter_mut().zip(bytes) {
+            *byte ^= changed;
+        }
+        binary_json::check(&doc)
+    };
+    let (key_entry, last) = (entry - 4, entry + 4 * u64::from(n) - 4);
+    assert_eq!(spoilt(key_entry as u32, &[4]), refuse(11, key_entry));
+    assert_eq!(spoilt(key_entry as u32, &[1]), refuse(11, key_entry));
+    assert_eq!(spoilt(last as u32, &[32]), refuse(9, last));
+    assert_eq!(spoilt(last as u32 + 3, &[0x80]), refuse(9, last));
+    let slot = slot(n - 1);
+    assert_eq!(spoilt(slot, &[1]), refuse(5, slot.into()));
+    assert_eq!(spoilt(first_number - 1, &[1]), refuse(5, slot.into()));
+    assert_eq!(spoilt(first_number - 2, &[1]), refuse(6, slot.into()));
+    // 19,999 starts with 40D3, no number with 7FF7; the object uses it before the array does.
+    assert_eq!(spoilt(number(n) - 2, &[0x24, 0x3F]), refuse(10, last));
+}
+
 #[test]
 fn deepest_documents() {
-    for (depth, verdict) in [(32, Ok(())), (33, refuse(12, 4 + 8 * 32))] {
+    let over = refuse(12, 4 + 8 * DEEPEST as u64);
+    for (depth, verdict) in [(DEEPEST, Ok(())), (DEEPEST + 1, over)] {
         let mut tree = Vec::new();
-        for level in 1..depth {
+        for level in 1..depth as u32 {
             tree.push(word(0, 1));
             tree.push(word(5, 4 + 8 * level));
         }
+        // The last container, and none where one is due: 12 comes before 8.
+        assert_eq!(
+            binary_json::check(&binary_json_document(&tree, &[], &[])),
+            verdict.and(refuse(8, 4 + 8 * (depth as u64 - 1)))
+        );
         tree.push(word(0, 0));
         assert_eq!(
             binary_json::check(&binary_json_document(&tree, &[], &[])),
             verdict
         );
     }
-    for (depth, verdict) in [(32, Ok(())), (33, refuse(41, 3 + 32))] {
+    let over = refuse(41, 3 + DEEPEST as u64);
+    for (depth, verdict) in [(DEEPEST, Ok(())), (DEEPEST + 1, over)] {
         let doc = fj_document(&[&vec![0x9F; depth - 1], &[0x9E]]);
         assert_eq!(fj_check(&doc, NO_NAMES, 0).0.verdict, verdict);
         let doc = fj_document(&[&vec![0x9F; depth - 1], &[0x6E]]);
@@ -742,28 +917,30 @@ fn deepest_documents() {
     }
 }
 
-/// The object at the cursor is container 1, so its first value may hold 31 more.
+/// The object at the cursor is container 1, so its first value may hold 63 more.
 #[test]
 fn nesting_before_the_member_sought() {
     let object = |nested: usize| {
         let value = [vec![0x9F; nested - 1], vec![0x9E]].concat();
         fj_document(&[&[0x70, 0x04, b'a'], &value, &[0x04, b'b', 0x00]])
     };
-    let doc = object(31);
+    // The value of "a" starts at 6.
+    let after = 6 + DEEPEST as u64;
+    let doc = object(DEEPEST - 1);
     assert_eq!(
         fractured_json::member(&doc, NO_NAMES, &[], 0, 3, 1),
-        Ok((37, 39))
+        Ok((after - 1, after + 1))
     );
     let found = fractured_json::first_member(&doc, NO_NAMES, &[], 0, 3, b"b");
-    assert_eq!(found, Ok(Some(39)));
-    let doc = object(32);
+    assert_eq!(found, Ok(Some(after + 1)));
+    let doc = object(DEEPEST);
     assert_eq!(
         fractured_json::member(&doc, NO_NAMES, &[], 0, 3, 1),
-        refuse(41, 37)
+        refuse(41, after - 1)
     );
     let found = fractured_json::first_member(&doc, NO_NAMES, &[], 0, 3, b"b");
-    assert_eq!(found, refuse(41, 37));
-    assert_eq!(fractured_json::end(&doc, NO_NAMES, &[], 0, 6), Ok(38));
+    assert_eq!(found, refuse(41, after - 1));
+    assert_eq!(fractured_json::end(&doc, NO_NAMES, &[], 0, 6), Ok(after));
 }
 
 #[test]
@@ -819,14 +996,21 @@ fn index_ffff03_and_ffff04() {
         let doc = fj_document(&[&[0x6F, key_byte, 0xFF, 0xFF, 0x04, 0x00]]);
         assert_eq!(fj_check(&doc, NO_NAMES, 2).0.verdict, refuse(37, 7));
     }
-    // A key of 65,535 bytes can never fit; the longest that does has 65,527.
-    let length = 65_527_u32;
-    let spelling = [length as u8 | 0x80, (length >> 7) as u8 | 0x80, 0x03];
-    let doc = fj_document(&[&[0x6F, 0x00], &spelling, &[b'k'; 65_527], &[0x00]]);
-    assert_eq!(doc.len(), 65_536);
+    // The longest key, asked for and found again by a back reference; one byte of it missing.
+    let text = [b'k'; 65_535];
+    let head = [0x70, 0x00, 0xFF, 0xFF, 0x03];
+    let doc = fj_document(&[&head, &text, &[0x00, 0x57, 0x01]]);
     let (checked, table) = fj_check(&doc, NO_NAMES, 2);
     assert_eq!((checked.verdict, checked.count), (Ok(()), 1));
-    assert_eq!(table, [8, length]);
+    assert_eq!(table, [8, 65_535]);
+    let value = 8 + 65_535;
+    let key = fractured_json::key(&doc, NO_NAMES, &table, 1, value + 1).unwrap();
+    assert_eq!((key.place, key.text), (8, &text[..]));
+    let found = |key| fractured_json::first_member(&doc, NO_NAMES, &table, 1, 3, key);
+    assert_eq!(found(&text), Ok(Some(value)));
+    assert_eq!(found(&text[1..]), Ok(None));
+    let doc = fj_document(&[&head, &text[1..]]);
+    assert_eq!(fj_check(&doc, NO_NAMES, 2).0.verdict, refuse(35, 4));
     // Index 65,535 in a table handed in: over 4,096 keys there is no room.
     let doc = fj_document(&[&[0x6F, 0x01, 0xFF, 0xFF, 0x03, 0x00]]);
     let table = vec![0; 131_072];
