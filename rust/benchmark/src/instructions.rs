@@ -90,7 +90,8 @@ impl Counting {
             .arg(COUNTED)
             .stdin(Stdio::piped())
             .stdout(Stdio::piped())
-            .spawn()?;
+            .spawn()
+            .inspect_err(|_| drop(fs::remove_dir(&folder)))?;
         Ok(Counting {
             folder,
             files: 0,

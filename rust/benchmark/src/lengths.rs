@@ -15,24 +15,27 @@ pub const LARGEST: usize = 16_777_216;
 /// How many distinct immediate keys a document of Fractured JSON can have.
 pub const MOST_KEYS: usize = 4096;
 
-/// The document of as many parts as fit into a length, or nearly, with its tree.
+/// The document of about as many parts as fit into a length, with its tree.
 pub fn filled(
     length: usize,
     tree: impl Fn(usize) -> Tree,
     document: impl Fn(&Tree) -> Vec<u8>,
 ) -> (Tree, Vec<u8>) {
+    let length = length as f64;
     // what a part takes is told by two shorter documents
-    let few = length / 4096;
-    let [start, next] = [few, 2 * few].map(|n| document(&tree(n)).len() as f64);
-    let part = (next - start) / few as f64;
-    let mut n = few + ((length as f64 - start) / part) as usize;
+    let mut n = length as usize / 4096;
+    let [once, twice] = [n, 2 * n].map(|n| document(&tree(n)).len() as f64);
+    let part = (twice - once) / n as f64;
+    let near = (2.0 * part).max(length / 4096.0);
+    let mut spare = length - once;
     loop {
+        n = n.saturating_add_signed((spare / part).floor() as isize);
         let tree = tree(n);
         let doc = document(&tree);
-        if doc.len() <= length {
+        spare = length - doc.len() as f64;
+        if (0.0..near).contains(&spare) {
             return (tree, doc);
         }
-        n -= ((doc.len() - length) as f64 / part).ceil() as usize;
     }
 }
 

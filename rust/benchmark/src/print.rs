@@ -38,9 +38,10 @@ fn head(columns: &str) {
 pub fn table(table: &Table, rows: &[Measured]) {
     println!("\n### {}", table.name);
     let times = format!("{} | {} | plain | ratio", table.of, table.unit);
-    match table.kind {
-        Kind::Hostile => head(&times),
-        _ => head(&format!("{times} | instructions | plain | ratio")),
+    if rows.iter().any(|row| row.counts.is_some()) {
+        head(&format!("{times} | instructions | plain | ratio"));
+    } else {
+        head(&times);
     }
     for row in rows {
         let per = row.per as f64;
