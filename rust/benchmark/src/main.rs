@@ -2,95 +2,58 @@
 //!
 //! Where valgrind is installed, the instructions of one call stand beside the times.
 
+mod cases;
+mod checks;
+mod growth;
+mod hostile;
 mod instructions;
-mod rows;
+mod lengths;
+mod lookups;
+mod print;
 mod shapes;
+mod tables;
 mod time;
 
-use instructions::Counts;
-use rows::{Row, Table};
-use std::env;
-use time::Times;
+use instructions::Counter;
+use print::Measured;
+use std::{env, mem};
+use tables::{Kind, Made};
 
-/// The two readers of a row beside each other: a figure of each, and their ratio.
-fn cells(proved: f64, plain: f64, digits: usize) -> String {
-    format!(
-        "{proved:.digits$} | {plain:.digits$} | {:.2}",
-        proved / plain
-    )
-}
+/// How few rounds a long call may have; a hostile one may have none but the first.
+const LEAST_ROUNDS: usize = 3;
 
-fn print(table: &Table, measured: &[(Times, Option<Counts>)]) {
-    println!("\n### {}\n", table.name);
-    println!(
-        "| {} | {} | plain | ratio | instructions | plain | ratio |",
-        table.of, table.unit
-    );
-    println!("|---|---|---|---|---|---|---|");
-    for (row, (times, counts)) in table.rows.iter().zip(measured) {
-        let per = row.per as f64;
-        let counted = counts.as_ref().map_or("| | |".to_string(), |c| {
-            cells(c.proved as f64 / per, c.plain as f64 / per, 0)
-        });
-        println!(
-            "| {} | {} | {counted} |",
-            row.name,
-            cells(times.proved / per, times.plain / per, 1)
-        );
-    }
-}
-
-/// How a check grows over the rows of a table, against the first.
-fn growth(table: &Table, measured: &[(Times, Option<Counts>)]) {
-    let whole = |i: usize| measured[i].0.proved / 1000.0;
-    for (i, row) in table.rows.iter().enumerate() {
-        println!(
-            "\n{}: {:.1} us, {:.1} times the first.",
-            row.name,
-            whole(i),
-            whole(i) / whole(0)
-        );
-    }
-}
-
-/// Throughput of the checks, which the ratios do not show.
-fn throughput(table: &Table, measured: &[(Times, Option<Counts>)]) {
-    let each: Vec<String> = table
-        .rows
-        .iter()
-        .zip(measured)
-        .map(|(row, (times, _))| {
-            format!(
-                "{} {:.0}",
-                row.name,
-                row.bytes as f64 * 1000.0 / times.proved
-            )
-        })
-        .collect();
-    println!("\nMB/s: {}.", each.join(", "));
+/// The figures of cases that are timed together.
+fn measure<const N: usize>(made: [Made; N], hostile: bool, counter: &mut Counter) -> [Measured; N] {
+    let least = if hostile { 0 } else { LEAST_ROUNDS };
+    let mut times = time::of_cases(made.each_ref().map(|made| &made.case), least).into_iter();
+    made.map(|made| Measured {
+        bytes: made.case.bytes.len(),
+        times: times.next().expect("each case is timed"),
+        counts: (!hostile).then(|| counter.count(&made.case)).flatten(),
+        name: made.name,
+        per: made.per,
+    })
 }
 
 fn main() {
-    let mut tables = rows::tables();
     if env::args().nth(1).as_deref() == Some(instructions::COUNTED) {
-        for row in tables.iter_mut().flat_map(|table| &mut table.rows) {
-            instructions::count(row);
-        }
-        return;
+        return instructions::serve();
     }
-    let rows = tables.iter().map(|table| table.rows.len()).sum();
-    let mut counts = instructions::of_rows(rows).into_iter();
-    for table in &mut tables {
-        let measured: Vec<_> = table
-            .rows
-            .iter_mut()
-            .map(|row: &mut Row| (time::of_row(row), counts.next()))
+    let mut counter = Counter::start();
+    for mut table in tables::tables() {
+        let hostile = table.kind == Kind::Hostile;
+        let rows: Vec<_> = mem::take(&mut table.rows)
+            .into_iter()
+            .flat_map(|make| measure([make()], hostile, &mut counter))
             .collect();
-        print(table, &measured);
-        match table.kind {
-            rows::Kind::Checks => throughput(table, &measured),
-            rows::Kind::Growth => growth(table, &measured),
-            rows::Kind::Lookups => {}
-        }
+        print::table(&table, &rows);
+    }
+    for table in growth::tables() {
+        let shapes: Vec<_> = table
+            .shapes
+            .iter()
+            .map(|shape| measure(shape.made(), false, &mut counter))
+            .collect();
+        print::growth(table.name, &shapes);
     }
 }

@@ -1,53 +1,51 @@
-//! The documents that are timed.
+//! The trees that are timed as documents.
 
 use documents::Tree;
 
-/// A tree with a name, and how many values it has.
+/// A tree with a name.
 pub struct Shape {
-    pub name: String,
+    pub name: &'static str,
     pub tree: Tree,
-    pub values: usize,
 }
 
-fn values(tree: &Tree) -> usize {
+pub fn values(tree: &Tree) -> usize {
     1 + tree.children().map(values).sum::<usize>()
 }
 
-fn shape(name: impl Into<String>, tree: Tree) -> Shape {
-    Shape {
-        name: name.into(),
-        values: values(&tree),
-        tree,
-    }
+fn shape(name: &'static str, tree: Tree) -> Shape {
+    Shape { name, tree }
 }
 
-fn member(key: &str, value: Tree) -> (Vec<u8>, Tree) {
+pub fn member(key: &str, value: Tree) -> (Vec<u8>, Tree) {
     (key.as_bytes().to_vec(), value)
 }
 
-/// A night in a greenhouse: steps with a time, sensors and what the controller should do. About 50 KB as BinaryJson.
-fn scenario() -> Tree {
-    let steps = (0..240).map(|i| {
-        let x = f64::from(i);
+/// How many steps a night has, which is about 50 KB as BinaryJson.
+const NIGHT: usize = 240;
+
+/// Nights in a greenhouse, each a bit warmer than the one before: steps with a time, sensors and what the controller should do.
+fn scenario(name: &str, steps: usize) -> Tree {
+    let steps = (0..steps).map(|i| {
+        let (warmer, x) = ((i / NIGHT) as f64 * 0.0371, (i % NIGHT) as f64);
         let sensor = |n: f64| {
             Tree::Object(vec![
-                member("air", Tree::number(12.5 - x / 40.0 + n)),
+                member("air", Tree::number(12.5 - x / 40.0 + n + warmer)),
                 member("humidity", Tree::number(70.0 + n)),
-                member("soil", Tree::number(14.0 - x / 100.0)),
+                member("soil", Tree::number(14.0 - x / 100.0 + warmer)),
             ])
         };
         Tree::Object(vec![
             member(
                 "expected",
                 Tree::Object(vec![
-                    member("heat", Tree::Bool(i > 60)),
+                    member("heat", Tree::Bool(i % NIGHT > 60)),
                     member(
                         "note",
                         Tree::text(if i % 5 == 0 { "frost" } else { "calm" }),
                     ),
                     member(
                         "vents",
-                        Tree::Array((0..4).map(|v| Tree::number(f64::from(v * i % 7))).collect()),
+                        Tree::Array((0..4).map(|v| Tree::number((v * i % 7) as f64)).collect()),
                     ),
                 ]),
             ),
@@ -55,30 +53,40 @@ fn scenario() -> Tree {
                 "sensors",
                 Tree::Array(vec![sensor(0.0), sensor(0.5), sensor(1.0)]),
             ),
-            member("time", Tree::number(x * 60.0)),
+            member("time", Tree::number(i as f64 * 60.0)),
         ])
     });
     Tree::Object(vec![
-        member("name", Tree::text("frost night")),
+        member("name", Tree::text(name)),
         member("steps", Tree::Array(steps.collect())),
     ])
 }
 
-/// The i-th key of at most 4,096: two bytes, or after 24 bytes that all keys share. Keys ascend with i.
-pub fn key(i: usize, prefixed: bool) -> Vec<u8> {
-    let digits = [b'0' + (i / 64) as u8, b'0' + (i % 64) as u8];
+/// A growing season of so many steps.
+pub fn season(steps: usize) -> Tree {
+    scenario("season", steps)
+}
+
+/// The i-th key: so many digits of base 64, or after 24 bytes that all keys share. Keys ascend with i.
+pub fn key(i: usize, digits: u32, prefixed: bool) -> Vec<u8> {
+    let digits = (0..digits).rev().map(|d| b'0' + (i >> (6 * d) & 63) as u8);
     let prefix: &[u8] = if prefixed {
         b"greenhouse/north/sensor/"
     } else {
         b""
     };
-    [prefix, &digits].concat()
+    prefix.iter().copied().chain(digits).collect()
 }
 
-pub fn object(members: usize, prefixed: bool) -> Tree {
+/// How many digits the keys of an object have.
+pub fn digits(members: usize) -> u32 {
+    if members <= 4096 { 2 } else { 3 }
+}
+
+pub fn object(members: usize, digits: u32, prefixed: bool) -> Tree {
     Tree::Object(
         (0..members)
-            .map(|i| (key(i, prefixed), Tree::Bool(i % 3 == 0)))
+            .map(|i| (key(i, digits, prefixed), Tree::Bool(i % 3 == 0)))
             .collect(),
     )
 }
@@ -90,11 +98,14 @@ pub fn names(count: usize) -> Vec<Vec<u8>> {
         .collect()
 }
 
-/// Sixteen objects with all these keys each.
-pub fn sixteen_objects(keys: &[Vec<u8>]) -> Shape {
-    let object = || Tree::Object(keys.iter().map(|k| (k.clone(), Tree::Null)).collect());
-    let tree = Tree::Array((0..16).map(|_| object()).collect());
-    shape(format!("16 objects of {} global keys", keys.len()), tree)
+/// Objects of so many members each, which take their keys from a row of keys in turn, over and over.
+pub fn objects_of(keys: &[Vec<u8>], members: usize, objects: usize) -> Tree {
+    let mut keys = keys.iter().cycle();
+    let mut object = || {
+        let members = keys.by_ref().take(members);
+        Tree::Object(members.map(|k| (k.clone(), Tree::Null)).collect())
+    };
+    Tree::Array((0..objects).map(|_| object()).collect())
 }
 
 fn levels(n: usize) -> Tree {
@@ -107,19 +118,21 @@ fn levels(n: usize) -> Tree {
     })
 }
 
+/// An array of binary64 numbers.
+pub fn numbers(n: usize) -> Tree {
+    Tree::Array((0..n).map(|i| Tree::number(i as f64 / 8.0)).collect())
+}
+
 pub fn shapes() -> Vec<Shape> {
-    let numbers = (0..4000)
-        .map(|i| Tree::number(f64::from(i) / 8.0))
-        .collect();
     let deep = (0..60).map(|_| levels(28)).collect();
     vec![
-        shape("nested scenario", scenario()),
-        shape("object of 4", object(4, false)),
-        shape("object of 64", object(64, false)),
-        shape("object of 4,096", object(4096, false)),
-        shape("object of 64, long prefix", object(64, true)),
-        shape("object of 1,600, long prefix", object(1600, true)),
-        shape("array of numbers", Tree::Array(numbers)),
+        shape("nested scenario", scenario("frost night", NIGHT)),
+        shape("object of 4", object(4, 2, false)),
+        shape("object of 64", object(64, 2, false)),
+        shape("object of 4,096", object(4096, 2, false)),
+        shape("object of 64, long prefix", object(64, 2, true)),
+        shape("object of 1,600, long prefix", object(1600, 2, true)),
+        shape("array of numbers", numbers(4000)),
         shape("30 levels", Tree::Array(deep)),
     ]
 }

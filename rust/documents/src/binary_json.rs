@@ -37,36 +37,38 @@ fn gather<'a>(tree: &'a Tree, texts: &mut BTreeSet<&'a [u8]>, numbers: &mut BTre
     }
 }
 
-fn put_word(doc: &mut Vec<u8>, low: u32, high: usize) {
-    doc.extend((low | (high as u32) << 5).to_le_bytes());
+fn word(low: u32, high: usize) -> [u8; 4] {
+    (low | (high as u32) << 5).to_le_bytes()
 }
 
 /// The Entry of a value; `due` is where its container starts, if it is one.
-fn put_entry(doc: &mut Vec<u8>, layout: &Layout, tree: &Tree, due: usize) {
+fn entry(layout: &Layout, tree: &Tree, due: usize) -> [u8; 4] {
     match tree {
-        Tree::Bool(b) => put_word(doc, u32::from(*b), 0),
-        Tree::Null => put_word(doc, 2, 0),
-        Tree::Text(text) => put_word(doc, 3, layout.slots[&text[..]]),
-        Tree::Number(bits) => put_word(doc, 4, layout.numbers[bits]),
-        Tree::Array(_) | Tree::Object(_) => put_word(doc, 5, due),
+        Tree::Bool(b) => word(u32::from(*b), 0),
+        Tree::Null => word(2, 0),
+        Tree::Text(text) => word(3, layout.slots[&text[..]]),
+        Tree::Number(bits) => word(4, layout.numbers[bits]),
+        Tree::Array(_) | Tree::Object(_) => word(5, due),
     }
 }
 
+/// A container and all below it; a child is due where the document ends when its Entry is written.
 fn put_container(doc: &mut Vec<u8>, layout: &Layout, tree: &Tree) {
     let n = tree.children().count();
-    put_word(doc, u32::from(matches!(tree, Tree::Object(_))), n);
+    doc.extend(word(u32::from(matches!(tree, Tree::Object(_))), n));
     if let Tree::Object(members) = tree {
         for (key, _) in members {
             doc.extend((layout.slots[&key[..]] as u32).to_le_bytes());
         }
     }
-    let mut due = doc.len() + 4 * n;
-    for child in tree.children() {
-        put_entry(doc, layout, child, due);
-        due += size(child);
-    }
-    for child in tree.children().filter(|c| c.is_container()) {
-        put_container(doc, layout, child);
+    let first = doc.len();
+    doc.resize(first + 4 * n, 0);
+    for (i, child) in tree.children().enumerate() {
+        let entry = entry(layout, child, doc.len());
+        doc[first + 4 * i..][..4].copy_from_slice(&entry);
+        if child.is_container() {
+            put_container(doc, layout, child);
+        }
     }
 }
 
@@ -91,18 +93,18 @@ pub fn document(tree: &Tree, unused: &Tree) -> Vec<u8> {
             .collect(),
     };
     let mut doc = Vec::new();
-    put_word(&mut doc, 1, index);
+    doc.extend(word(1, index));
     if tree.is_container() {
         put_container(&mut doc, &layout, tree);
     } else {
-        put_word(&mut doc, 2, 1);
-        put_entry(&mut doc, &layout, tree, 0);
+        doc.extend(word(2, 1));
+        doc.extend(entry(&layout, tree, 0));
     }
     doc.extend((texts.len() as u32).to_le_bytes());
     let mut past = first;
     for text in &texts {
         past += text.len() + 1;
-        put_word(&mut doc, 0, past);
+        doc.extend(word(0, past));
     }
     for text in &texts {
         doc.extend(*text);

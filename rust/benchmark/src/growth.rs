@@ -1,0 +1,193 @@
+//! Documents of about 64 KB, 1 MB and 16 MB of one shape, whose checks should take the same time a byte.
+
+use crate::cases::Case;
+use crate::checks::{binary_document, fractured_check, fractured_document};
+use crate::lengths::{LENGTHS, MOST_KEYS, filled, full_room, repeated};
+use crate::shapes::{key, member, names, numbers, object, objects_of, season};
+use crate::tables::Made;
+use documents::Tree;
+
+/// A shape, whose case is made for a length that its document does not pass.
+pub struct Growing {
+    name: &'static str,
+    make: Box<dyn Fn(usize) -> Case>,
+}
+
+impl Growing {
+    /// The cases of the three lengths.
+    pub fn made(&self) -> [Made; 3] {
+        LENGTHS.map(|(length, _)| {
+            let case = (self.make)(length);
+            Made {
+                name: self.name.to_string(),
+                per: case.bytes.len(),
+                case,
+            }
+        })
+    }
+}
+
+fn growing(name: &'static str, make: impl Fn(usize) -> Case + 'static) -> Growing {
+    Growing {
+        name,
+        make: Box::new(make),
+    }
+}
+
+pub struct Growth {
+    pub name: &'static str,
+    pub shapes: Vec<Growing>,
+}
+
+pub fn tables() -> [Growth; 2] {
+    [
+        Growth {
+            name: "Growth, BinaryJson",
+            shapes: binary_shapes(),
+        },
+        Growth {
+            name: "Growth, Fractured JSON",
+            shapes: fractured_shapes(),
+        },
+    ]
+}
+
+/// A shape by its name, and its tree of so many parts.
+type Parts = (&'static str, fn(usize) -> Tree);
+
+/// The shapes that both formats have.
+fn shapes() -> Vec<Parts> {
+    vec![
+        ("season", season),
+        ("64 levels of arrays", |n| {
+            array(n, |_| chain(|inner| Tree::Array(vec![inner])))
+        }),
+        ("64 levels of objects", |n| {
+            array(n, |_| chain(|inner| Tree::Object(vec![member("a", inner)])))
+        }),
+        ("empty arrays", |n| array(n, |_| Tree::Array(vec![]))),
+        ("empty objects", |n| array(n, |_| Tree::Object(vec![]))),
+        ("nulls", |n| array(n, |_| Tree::Null)),
+        ("numbers", numbers),
+        ("strings of 8 bytes", |n| {
+            array(n, |i| Tree::Text(format!("{i:08}").into_bytes()))
+        }),
+        ("objects of 4 members", |n| {
+            let keys: Vec<_> = (0..4).map(|i| key(i, 1, false)).collect();
+            objects_of(&keys, 4, n)
+        }),
+        ("values of all kinds in random order", |n| {
+            Tree::Array(random().take(n).map(any_value).collect())
+        }),
+    ]
+}
+
+fn array(n: usize, item: impl FnMut(usize) -> Tree) -> Tree {
+    Tree::Array((0..n).map(item).collect())
+}
+
+/// Containers from level 2 to level 64, the last of them empty.
+fn chain(around: fn(Tree) -> Tree) -> Tree {
+    (3..=64).fold(Tree::Array(vec![]), |inner, _| around(inner))
+}
+
+/// Numbers in no order, none of them twice in the first 2^32.
+fn random() -> impl Iterator<Item = u32> {
+    std::iter::successors(Some(1_u32), |x| {
+        Some(x.wrapping_mul(1_664_525).wrapping_add(1_013_904_223))
+    })
+}
+
+/// A value of a kind that a random number chooses.
+fn any_value(random: u32) -> Tree {
+    match random >> 16 & 7 {
+        0 => Tree::Null,
+        1 => Tree::Bool(true),
+        2 => Tree::number(random.into()),
+        3 => Tree::text("frost"),
+        4 => Tree::Array(vec![]),
+        5 => Tree::Array(vec![Tree::Null]),
+        6 => Tree::Object(vec![]),
+        _ => Tree::Object(vec![member("air", Tree::Null)]),
+    }
+}
+
+fn binary_shapes() -> Vec<Growing> {
+    let of_parts = |(name, tree): Parts| {
+        growing(name, move |length| {
+            Case::binary_check(filled(length, tree, binary_document).1)
+        })
+    };
+    let of_tree = |name, tree: fn(usize) -> Tree| {
+        growing(name, move |length| {
+            Case::binary_check(binary_document(&tree(length)))
+        })
+    };
+    let own: [Parts; 3] = [
+        ("one object", |n| object(n, 4, false)),
+        ("strings that share 248 bytes", |n| {
+            array(n, |i| Tree::Text(alike(248, i)))
+        }),
+        ("numbers named in random order", |n| {
+            let numbers = random().take(n).map(|x| Tree::number(x.into()));
+            Tree::Array(numbers.collect())
+        }),
+    ];
+    shapes()
+        .into_iter()
+        .chain(own)
+        .map(of_parts)
+        .chain([
+            of_tree("two strings, alike to the last bytes", |length| {
+                array(2, |i| Tree::Text(alike(length / 2 - 32, i)))
+            }),
+            of_tree("one string", |length| Tree::Text(vec![b's'; length - 32])),
+        ])
+        .collect()
+}
+
+/// The i-th of texts that share so many bytes, and have four more.
+fn alike(shared: usize, i: usize) -> Vec<u8> {
+    [vec![b's'; shared], key(i, 4, false)].concat()
+}
+
+fn fractured_shapes() -> Vec<Growing> {
+    let of_parts = |(name, tree): Parts| {
+        growing(name, move |length| {
+            fractured_check(filled(length, tree, fractured_document).1)
+        })
+    };
+    let back_references: Parts = ("4,096 keys, then back references", |n| {
+        let keys: Vec<_> = (0..MOST_KEYS).map(|i| key(i, 2, false)).collect();
+        objects_of(&keys, 64, n)
+    });
+    shapes()
+        .into_iter()
+        .chain([back_references])
+        .map(of_parts)
+        .chain([
+            growing("4,096 keys, as long as fit", |length| {
+                full_room(length, |count, length| {
+                    (0..count).map(|i| alike(length - 4, i)).collect()
+                })
+            }),
+            growing("global keys, 65,535 names", global_keys),
+            growing("tiny ints", |length| repeated(length, &[0xDE])),
+            growing("ints of 16 bits", |length| repeated(length, &[0x05, 1, 2])),
+            growing("one string", |length| {
+                fractured_check(fractured_document(&Tree::Text(vec![b's'; length - 8])))
+            }),
+        ])
+        .collect()
+}
+
+/// Objects whose keys are all names of the longest key list in turn.
+fn global_keys(length: usize) -> Case {
+    let names = names(65_535);
+    let (_, doc) = filled(
+        length,
+        |n| objects_of(&names, 64, n),
+        |tree| documents::fractured_json::document(tree, &names),
+    );
+    Case::fractured_check(doc, documents::fractured_json::key_list(&names))
+}
