@@ -75,7 +75,7 @@ uint32_t bj_plain_scan(const uint8_t *doc, size_t doc_len, size_t tree, const ui
    whose names a document's global indices count from 0: a config byte, a 16-bit count, then for each name its 16-bit length
    and its text, little endian. The bytes 00 00 00 are a list without names; no bytes at all are refused (52 at 0). Every
    other call gives the refusal that fj_check_list gives, its place an offset in the list, before it looks at the document.
-   A call uses at most 36 KB of stack with a list of up to 1,024 names, 117 KB with up to 8,192, 805 KB with more */
+   A call uses at most 35 KB of stack with a list of up to 1,024 names, 114 KB with up to 8,192, 786 KB with more */
 
 /* Checks a key list.
    Returns 0 and writes nothing, or a refusal (51 to 54), whose place is an offset in the list; needs 1 word. */

@@ -38,9 +38,15 @@ printf 'frames\n1 B no 3 0\n2 hex\n3 long\n4 hex\n5 long\ntotal 5 ok 0\n' >"$wor
 same 'long before hex'
 
 # arrays in each other, 64 and 65 levels: a frame may be as deep as any document
-levels() { printf 464A01; printf '9F%.0s' $(seq 2 "$1"); echo 9E; }
-{ levels 64; levels 65; } >"$work/in"
-printf 'frames\n1 F ok\n2 F no 41 67\ntotal 2 ok 1\n' >"$work/want"
+word() { printf '%02X%02X%02X%02X' $(($1 & 255)) $(($1 >> 8 & 255)) $(($1 >> 16 & 255)) $(($1 >> 24)); }
+binary() {
+    word $((1 + 32 * 8 * $1))
+    for ((i = 1; i < $1; i++)); do word 32; word $((5 + 32 * (4 + 8 * i))); done
+    word 0; word 0; echo
+}
+fractured() { printf 464A01; printf '9F%.0s' $(seq 2 "$1"); echo 9E; }
+{ binary 64; binary 65; fractured 64; fractured 65; } >"$work/in"
+printf 'frames\n1 B ok\n2 B no 12 516\n3 F ok\n4 F no 41 67\ntotal 4 ok 2\n' >"$work/want"
 same 'levels'
 
 # many lines, which end at every place of a block

@@ -42,7 +42,7 @@ tree = arr (more (num false (2 ^ 1074)) (more (obj (member (hex 1 0x61) (arr non
 pub nesting : (depth tree ≡ 3) × (depth null ≡ 0)
 nesting = (refl, refl)
 
--- the limits of document 01
+-- the limits of documents 01 and 02
 pub limits :
     (leastBinary ≡ 12) × (leastFractured ≡ 4) × (longest ≡ 16_777_216) × (deepest ≡ 64) × (mostKeys ≡ 4_096) × (longestLine ≡ 32_768) × (benchKeys ≡ 4_096)
 limits = (refl, refl, refl, refl, refl, refl, refl)

@@ -1,4 +1,4 @@
-// The limits of document 01, as specs/Limits.antt has them: for both readers and the bench, each named once.
+// The limits of specs/Limits.antt, for both readers and the bench, each named once.
 
 // The least length of a BinaryJson and of a Fractured JSON document, and the greatest of both, in bytes.
 pub const LEAST_BINARY: usize = 12;

@@ -15,7 +15,6 @@ pub enum Question {
     PlainScan,
 }
 
-/// The questions by their numbers, for `Case::read`.
 const QUESTIONS: [Question; 5] = [
     Question::BinaryCheck,
     Question::FracturedCheck,
@@ -23,6 +22,13 @@ const QUESTIONS: [Question; 5] = [
     Question::QuickLookup,
     Question::PlainScan,
 ];
+
+impl Question {
+    /// The question of a number, which `as u8` gives.
+    fn numbered(number: u8) -> Option<Question> {
+        QUESTIONS.into_iter().find(|q| *q as u8 == number)
+    }
+}
 
 pub struct Case {
     pub question: Question,
@@ -141,7 +147,7 @@ impl Case {
             Ok(bytes)
         };
         Ok(Case {
-            question: QUESTIONS[usize::from(head[0])],
+            question: Question::numbered(head[0]).ok_or(io::ErrorKind::InvalidData)?,
             bytes: part()?,
             beside: (0..head[1]).map(|_| part()).collect::<io::Result<_>>()?,
         })

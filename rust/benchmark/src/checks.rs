@@ -2,9 +2,10 @@
 
 use crate::cases::Case;
 use crate::hostile::texts_of_one_hash;
-use crate::lengths::{LARGEST, LENGTHS, filled, full_room};
+use crate::lengths::{LENGTHS, filled, full_room};
 use crate::shapes::{Shape, digits, names, object, objects_of, season, shapes, values};
 use crate::tables::{Row, row};
+use differential::LONGEST;
 use documents::Tree;
 
 pub fn binary_document(tree: &Tree) -> Vec<u8> {
@@ -61,7 +62,7 @@ fn global_row() -> Row {
 /// The season, with as many steps as a document can have.
 fn season_row(document: fn(&Tree) -> Vec<u8>, check: fn(Vec<u8>) -> Case) -> Row {
     row("season", move || {
-        let (tree, doc) = filled(LARGEST, season, document);
+        let (tree, doc) = filled(LONGEST, season, document);
         (check(doc), values(&tree))
     })
 }

@@ -5,6 +5,7 @@ use crate::checks::{binary_document, fractured_check, fractured_document};
 use crate::lengths::{LENGTHS, MOST_KEYS, filled, full_room, repeated};
 use crate::shapes::{key, member, names, numbers, object, objects_of, season};
 use crate::tables::Made;
+use differential::DEEPEST;
 use documents::Tree;
 
 /// A shape, whose case is made for a length that its document does not pass.
@@ -59,10 +60,10 @@ type Parts = (&'static str, fn(usize) -> Tree);
 fn shapes() -> Vec<Parts> {
     vec![
         ("season", season),
-        ("64 levels of arrays", |n| {
+        ("deepest arrays", |n| {
             array(n, |_| chain(|inner| Tree::Array(vec![inner])))
         }),
-        ("64 levels of objects", |n| {
+        ("deepest objects", |n| {
             array(n, |_| chain(|inner| Tree::Object(vec![member("a", inner)])))
         }),
         ("empty arrays", |n| array(n, |_| Tree::Array(vec![]))),
@@ -86,9 +87,9 @@ fn array(n: usize, item: impl FnMut(usize) -> Tree) -> Tree {
     Tree::Array((0..n).map(item).collect())
 }
 
-/// Containers from level 2 to level 64, the last of them empty.
+/// Containers from level 2 to the deepest, the last of them empty.
 fn chain(around: fn(Tree) -> Tree) -> Tree {
-    (3..=64).fold(Tree::Array(vec![]), |inner, _| around(inner))
+    (3..=DEEPEST).fold(Tree::Array(vec![]), |inner, _| around(inner))
 }
 
 /// Numbers in no order, none of them twice in the first 2^32.

@@ -2,15 +2,13 @@
 
 use crate::cases::Case;
 use crate::checks::{fractured_check, fractured_document};
+use differential::LONGEST;
 use documents::Tree;
 use documents::fractured_json::ARRAY;
 
-/// The lengths at which growth is measured, and what the tables call them.
+/// The lengths at which growth is measured, up to the longest that a document can have, and what the tables call them.
 pub const LENGTHS: [(usize, &str); 3] =
-    [(65_536, "64 KB"), (1_048_576, "1 MB"), (LARGEST, "16 MB")];
-
-/// The longest document of either format.
-pub const LARGEST: usize = 16_777_216;
+    [(65_536, "64 KB"), (1_048_576, "1 MB"), (LONGEST, "16 MB")];
 
 /// How many distinct immediate keys a document of Fractured JSON can have.
 pub const MOST_KEYS: usize = 4096;

@@ -12,7 +12,7 @@ use crate::shapes::names;
 pub struct Made {
     pub name: String,
     pub case: Case,
-    /// How many values or lookups one call is: figures are per one of them.
+    /// How many values, keys, names, bytes or lookups one call is: figures are per one of them.
     pub per: usize,
 }
 

@@ -229,8 +229,8 @@ impl DerefMut for KeyTable {
 ///
 /// Its bytes are a config byte 0 and a 16-bit count, then for each name its 16-bit length and its text, little endian.
 ///
-/// Every question reads the list anew, on the stack. A call takes at most 36 KB of it with up to 1,024 names, 117 KB with up to
-/// 8,192, and 805 KB with more.
+/// Every question reads the list anew, on the stack. A call takes at most 35 KB of it with up to 1,024 names, 114 KB with up to
+/// 8,192, and 786 KB with more.
 #[derive(Debug, Clone, Copy, PartialEq, Eq, Hash)]
 pub struct KeyList<'a> {
     bytes: &'a [u8],

@@ -195,7 +195,8 @@ fn the_last_bytes_of_the_longest_binary_json() {
     assert!(matches!(object.get(&key[1..]), Ok(None)));
     assert_eq!(document.plain_scan(document.root(), &key), Ok(Some(entry)));
 
-    // [0.0,...,-1.5], each Entry with a number of its own; the last number ends at the last byte
+    // [0.0,...,-1.5], each Entry with a number of its own, as many as fit, and an odd number of them, so that the last one ends at
+    // the last byte
     let n = 1_398_099;
     let index = 8 + 4 * n;
     let mut words = vec![1 + 32 * index, 32 * n];
