@@ -37,7 +37,7 @@ zeros() { head -c "$1" /dev/zero | tr '\0' 0; }
 printf 'frames\n1 B no 3 0\n2 hex\n3 long\n4 hex\n5 long\ntotal 5 ok 0\n' >"$work/want"
 same 'long before hex'
 
-# arrays in each other, 64 and 65 levels: a frame may be as deep as any document
+# arrays in each other, 64 and 65 levels, in 1 MB of stack: a frame may be as deep as any document
 word() { printf '%02X%02X%02X%02X' $(($1 & 255)) $(($1 >> 8 & 255)) $(($1 >> 16 & 255)) $(($1 >> 24)); }
 binary() {
     word $((1 + 32 * 8 * $1))
@@ -47,7 +47,8 @@ binary() {
 fractured() { printf 464A01; printf '9F%.0s' $(seq 2 "$1"); echo 9E; }
 { binary 64; binary 65; fractured 64; fractured 65; } >"$work/in"
 printf 'frames\n1 B ok\n2 B no 12 516\n3 F ok\n4 F no 41 67\ntotal 4 ok 2\n' >"$work/want"
-same 'levels'
+(ulimit -s 1024; same 'levels')
+cases=$((cases + 1))
 
 # many lines, which end at every place of a block
 lines=200000
