@@ -108,7 +108,7 @@ pub checks-say : map (λ x. verdict (x .doc)) checks ≡ map (λ x. x .says) che
 unfolding need _>>=_ follow choose number finite byNumbers compareTexts index count slot text content numbers kindOf typeOf header ascends slotRules slots slotNamed numberNamed keyEntries entryBy entry entries containerBy container scalar rootBy check
 checks-say = refl
 
--- the longest document: [null], and numbers that no Entry names
+-- a document of the greatest length is good: [null], and numbers that no Entry names
 pub longest-good : (rest : List ℕ) → length rest ≡ longest - 16 → verdict (hex 16 0x81010000200000000200000000000000 ++ rest) ≡ answers tt
 unfolding need _>>=_ follow number index count slot text numbers kindOf typeOf header slots entryBy entry entries containerBy container rootBy check
 longest-good rest h = rw h

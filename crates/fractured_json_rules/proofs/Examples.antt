@@ -183,7 +183,7 @@ unfolding follow _>>=_ need choose number finite byNumbers compareTexts formOf k
     inTurn member valueBy value keyBy met namesFrom keyList newKey oldKey listedKey checkKey document check roomOf stored
 check-says = refl
 
--- the longest document: a string, with its length in four bytes
+-- a document of the greatest length is good: a string, with its length in four bytes
 abbrev longString : List ℕ → List ℕ
 longString rest = hex 4 0x464A010F ++ reverse (hex 4 (longest - 8)) ++ rest
 
