@@ -103,7 +103,7 @@ unfolding ComparesFrom
 compares-first a b = (refl, omega arith)
 
 module _ (a b : List ℕ) (i s : ℕ) (here : ComparesFrom a b i s) where
-  module _ (n stop : ℕ) (en : n ≡ min (length a) (length b)) (es : stop ≡ n - n % 8) (before : i < stop) (whole : i % 8 ≡ 0) where
+  module _ (left : ℕ) (some : 0 < left) (whole : i + 8 * left ≤ min (length a) (length b)) where
     next-eight : compareSteps (drop i a) (drop i b) ≡ step 8 compareSteps (drop i a) (drop i b)
     next-eight =
         let la = length-drop i a in
@@ -150,14 +150,15 @@ module _ (a b : List ℕ) (i s : ℕ) (here : ComparesFrom a b i s) where
       pub byte-below-counted : getD a i 0 < getD b i 0 → s + 1 ≡ compareSteps a b
       byte-below-counted l = below l .1
 
-      pub byte-above : getD b i 0 < getD a i 0 → Above ≡ compareTexts a b
-      byte-above g = above g .0
+      module _ (unlike : getD a i 0 ≡ getD b i 0 → ⊥) where
+        pub byte-above : getD b i 0 ≤ getD a i 0 → Above ≡ compareTexts a b
+        byte-above g = above (omega arith) .0
 
-      pub byte-above-counted : getD b i 0 < getD a i 0 → s + 1 ≡ compareSteps a b
-      byte-above-counted g = above g .1
+        pub byte-above-counted : getD b i 0 ≤ getD a i 0 → s + 1 ≡ compareSteps a b
+        byte-above-counted g = above (omega arith) .1
 
-      pub byte-equal : getD b i 0 ≤ getD a i 0 → getD a i 0 ≤ getD b i 0 → ComparesFrom a b (i + 1) (s + 1)
-      byte-equal g l = step-equal a b i s here 1 next-one (omega arith) (omega arith) (one-byte ∙ numbers-equal (getD a i 0) (getD b i 0) .1 (omega arith))
+      pub byte-equal : getD a i 0 ≡ getD b i 0 → ComparesFrom a b (i + 1) (s + 1)
+      byte-equal e = step-equal a b i s here 1 next-one (omega arith) (omega arith) (one-byte ∙ numbers-equal (getD a i 0) (getD b i 0) .1 e)
 
     module _ (end : n ≤ i) (inside : i ≤ n) where
       pub end-counted : s ≡ compareSteps a b

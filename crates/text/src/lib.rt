@@ -55,19 +55,20 @@ fn compare_rest(a: &[u8], b: &[u8], at: usize, before: usize) -> Comparison
         steps += 1;
         let x = a[i];
         let y = b[i];
-        if x < y {
-            return Comparison {
-                order: Order::Below,
-                steps,
-            };
-        }
-        if y < x {
+        if x == y {
+            i += 1;
+        } else {
+            if x < y {
+                return Comparison {
+                    order: Order::Below,
+                    steps,
+                };
+            }
             return Comparison {
                 order: Order::Above,
                 steps,
             };
         }
-        i += 1;
     }
     if a.len() < b.len() {
         return Comparison {
@@ -92,11 +93,10 @@ fn compare_rest(a: &[u8], b: &[u8], at: usize, before: usize) -> Comparison
 pub fn compare(a: &[u8], b: &[u8]) -> Comparison
     ensures { λ r. ⌜ (r .order ≡ compareTexts (now (a .entry)) (now (b .entry))) × (r .steps ≡ compareSteps (now (a .entry)) (now (b .entry))) ⌝ }
 {
-    let n = shorter(a, b);
-    let stop = n - n % 8;
+    let mut left = shorter(a, b) / 8;
     let mut i = 0;
     let mut steps = 0;
-    while i < stop {
+    while 0 < left {
         steps += 1;
         let o = compare_eight(a, b, i);
         match o {
@@ -114,6 +114,7 @@ pub fn compare(a: &[u8], b: &[u8]) -> Comparison
             }
             Order::Equal => {
                 i += 8;
+                left -= 1;
             }
         }
     }

@@ -1,5 +1,5 @@
-use mathlib.Core.Path.{_≡_}
-use Prim.Native.Nat.{_-_, _%_, _≤_}
+use Prim.Native.Nat.{_+_, _*_, _≤_, _<_, min}
+use lib.ListN.{length}
 use Rattle.text.specs.ComparesFrom.{ComparesFrom}
 use Rattle.text.proofs.Laws.{eights-laws}
 use Rattle.text.proofs.compare.Statement.{statement}
@@ -11,16 +11,13 @@ use Rattle.text.proofs.compare_rest.Reads as compare-rest-reads
 use Rattle.text.proofs.shorter.Reads as shorter-reads
 
 abbrev Inv-loop : tie.InvT-loop
-Inv-loop a b n stop i₀ steps₀ i steps = (i % 8 ≡ 0) × (i ≤ stop) × (steps ≤ i) × ComparesFrom a b i steps
+Inv-loop a b left₀ i₀ steps₀ left i steps = (i + 8 * left ≤ min (length a) (length b)) × (min (length a) (length b) < i + 8 * left + 8) × (steps ≤ i) × ComparesFrom a b i steps
 
 abbrev μ-loop : tie.MeasureT-loop
-μ-loop a b n stop i₀ steps₀ i steps = stop - i
+μ-loop a b left₀ i₀ steps₀ left i steps = left
 
 shorter-requires : tie.Need-shorter-requires Inv-loop μ-loop
 shorter-requires c κs = search eights-laws
-
-sub-stop : tie.Need-sub-stop Inv-loop μ-loop
-sub-stop c = search eights-laws
 
 loop-holds : tie.Need-loop-holds Inv-loop μ-loop
 loop-holds c = search eights-laws
@@ -49,6 +46,9 @@ enum-told-3 c = search eights-laws
 add-i : tie.Need-add-i Inv-loop μ-loop
 add-i c = search eights-laws
 
+sub-left : tie.Need-sub-left Inv-loop μ-loop
+sub-left c = search eights-laws
+
 loop-less : tie.Need-loop-less Inv-loop μ-loop
 loop-less c = search eights-laws
 
@@ -68,7 +68,6 @@ compare-spec =
     Inv-loop
     μ-loop
     shorter-requires
-    sub-stop
     loop-holds
     add-steps
     compare-eight-requires
@@ -78,6 +77,7 @@ compare-spec =
     returns-2
     enum-told-3
     add-i
+    sub-left
     loop-less
     loop-again
     compare-rest-requires

@@ -28,12 +28,6 @@ shared-slice-read-x c = search bytes-laws
 shared-slice-read-y : tie.Need-shared-slice-read-y Inv-loop μ-loop
 shared-slice-read-y c = search bytes-laws
 
-returns : tie.Need-returns Inv-loop μ-loop
-returns c = search bytes-laws
-
-returns-2 : tie.Need-returns-2 Inv-loop μ-loop
-returns-2 c = search bytes-laws
-
 add-i : tie.Need-add-i Inv-loop μ-loop
 add-i c = search bytes-laws
 
@@ -42,6 +36,12 @@ loop-less c = search bytes-laws
 
 loop-again : tie.Need-loop-again Inv-loop μ-loop
 loop-again c = search bytes-laws
+
+returns : tie.Need-returns Inv-loop μ-loop
+returns c = search bytes-laws
+
+returns-2 : tie.Need-returns-2 Inv-loop μ-loop
+returns-2 c = search bytes-laws
 
 returns-3 : tie.Need-returns-3 Inv-loop μ-loop
 returns-3 c = search bytes-laws
@@ -63,11 +63,11 @@ compare-rest-spec =
     add-steps
     shared-slice-read-x
     shared-slice-read-y
-    returns
-    returns-2
     add-i
     loop-less
     loop-again
+    returns
+    returns-2
     returns-3
     returns-4
     returns-5)
