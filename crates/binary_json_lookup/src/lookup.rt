@@ -43,7 +43,7 @@ fn compare_text(doc: &[u8], a: Areas, at: SlotOffset, key: &[u8]) -> Compared
     match t {
         Texted::Bad => Compared::Bad,
         Texted::At { place, len } => {
-            let o = text::compare(bytes(doc, place, len), key);
+            let o = text::order(bytes(doc, place, len), key);
             Compared::Of(o)
         }
     }

@@ -1,3 +1,4 @@
 pub mod WordLaws
 pub mod BinaryCases
 pub mod FracturedCases
+pub mod TextCases

@@ -11,6 +11,8 @@ use Rattle.json.specs.Span.{Span}
 use Rattle.binary_json_rules.specs.Questions as Binary
 use Rattle.binary_json_rules.specs.Lookup.{Found, entry, absent, Lookup}
 use Rattle.fractured_json_rules.specs.Questions as Fractured
+use Rattle.json.specs.declared.Order.{Order}
+use Rattle.json.specs.declared.Order.the-variants.{Below, Equal, Above}
 
 pub record Coded : Type 0 where
   pub number : ℕ
@@ -108,3 +110,13 @@ keyAt k = lenderOf (k .lender) ∷ k .place ∷ k .len ∷ k .past ∷ []
 abbrev pub checkedBy : ℕ → Asked (Unit {0}) → Coded
 checkedBy count (done u s) = code 0 (count ∷ [])
 checkedBy count (halt number place s) = code number (place ∷ count ∷ [])
+
+-- 0 below, 1 equal, 2 above
+abbrev pub orderNumber : Order → ℕ
+orderNumber Below = 0
+orderNumber Equal = 1
+orderNumber Above = 2
+
+-- the order of two texts, and the steps
+abbrev pub compared : Order → ℕ → Coded
+compared o steps = code 0 (orderNumber o ∷ steps ∷ [])

@@ -8,11 +8,14 @@ use lib.Dec.{ltb}
 use lib.ListN.{length}
 use Rattle.json.specs.Choose.{choose}
 use Rattle.json.specs.Reading.{Asked, told}
+use Rattle.json.specs.Texts.{compareTexts}
+use Rattle.text.specs.Steps.{compareSteps}
+use Rattle.text.specs.declared.Comparison.{Comparison}
 use Rattle.fractured_json_rules.specs.KeyTable.{checked}
 use Rattle.fractured_json_check.specs.Told.{toldChecked}
 use Rattle.fractured_json_check.specs.declared.answers.Checked.{Checked}
 use Rattle.binary_json_rules.specs.Lookup.{Lookup}
-use Rattle.encoding.specs.Encoding.{Coded, coded, hands, given, handed, counted, checkedBy}
+use Rattle.encoding.specs.Encoding.{Coded, coded, hands, given, handed, counted, checkedBy, compared}
 
 pub too-few : (need : ℕ) (words : List ℕ) (c : Coded) → length words < need → hands 255 words ≡ handed need words c
 unfolding handed choose
@@ -28,7 +31,12 @@ pub lookup-handed : (need r : ℕ) (words after : List ℕ) (q p : Lookup) → n
 unfolding handed choose
 lookup-handed need r words after q p h e g = rw (le-ltb (length words) need h) (g ∙ ap (λ x. given words (counted x)) e)
 
-pub ruleset handing-laws = (too-few, handed-over, lookup-handed, needs)
+pub compared-handed : (need r : ℕ) (words after a b : List ℕ) (c : Comparison) → need ≤ length words → c .order ≡ compareTexts a b → c .steps ≡ compareSteps a b
+    → hands r after ≡ given words (compared (c .order) (c .steps)) → hands r after ≡ handed need words (compared (compareTexts a b) (compareSteps a b))
+unfolding handed choose
+compared-handed need r words after a b c h e f g = rw (le-ltb (length words) need h, ← e, ← f) g
+
+pub ruleset handing-laws = (too-few, handed-over, lookup-handed, compared-handed, needs)
 
 -- ---- the check with a key table
 

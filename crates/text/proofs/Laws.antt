@@ -1,83 +1,189 @@
--- What two texts' order is, from a place from which on the order of the rest is theirs: one law for each way through `compare`.
-use mathlib.Core.Path.{_≡_, refl, sym, subst, ap, _∙_}
+-- What comparing two texts gives, from a place that was reached in so many steps: one law for each way through the code.
+use mathlib.Core.Path.{_≡_, refl, sym, ap, _∙_}
 use mathlib.Core.Bool.{Bool, true, false}
-use mathlib.Core.List.{List}
-use Prim.Native.Nat.{ℕ, zero, suc, _+_, _-_, _%_, _≤_, _<_}
-use native.Mathlib.Numerals.{add-one}
+use mathlib.Core.List.{List, [], _∷_}
+use Prim.Native.Nat.{ℕ, zero, suc, _+_, _-_, _*_, _/_, _%_, _^_, _≤_, _<_, min}
 use native.Mathlib.Omega.{arith}
 use borrow.Author.Needs.{needs}
-use borrow.Author.Tests.{lt-ltb, le-ltb}
 use mir.Syntax.{w8}
 use mir.Val.{Fits}
-use lib.Dec.{T, eqb, eqb→eq}
-use lib.ListN.{length, take, drop, getD, drop-of-length-le}
-use lib.Seq.{drop-cons}
-use Rattle.json.specs.Bytes.{Bytes, number}
+use lib.Dec.{ltb}
+use lib.ListN.{length, take, drop, getD, length-drop, drop-of-length-le}
+use lib.Seq.{drop-cons, drop-drop}
+use Rattle.json.specs.Bytes.{Bytes, number, part}
 use Rattle.json.specs.Choose.{choose}
-use Rattle.word.proofs.Laws.{number-part}
-use Rattle.json.specs.Texts.{byNumbers, compareTexts, isEqual}
-use Rattle.json.proofs.Texts.{texts-equal}
-use Rattle.text.specs.OrderFrom.{OrderFrom}
+use Rattle.json.specs.Texts.{byNumbers, compareNumbers, compareTexts, isEqual}
+use Rattle.json.proofs.Texts.{by-numbers, texts-equal, numbers-below, numbers-equal, numbers-above}
 use Rattle.json.specs.declared.Order.{Order}
 use Rattle.json.specs.declared.Order.the-variants.{Below, Equal, Above}
+use Rattle.word.proofs.Laws.{number-below, number-part}
+use Rattle.text.specs.ComparesFrom.{ComparesFrom}
+use Rattle.text.specs.Steps.{alike, step, compareSteps}
+use Rattle.text.specs.Swapped.{swapped}
+use Rattle.text.proofs.Steps.{steps-eight, steps-one, steps-none}
+use Rattle.text.proofs.Swapped.{swapped-one, swapped-order}
 
-pub order-first : (a b : List ℕ) → OrderFrom a b 0
-unfolding OrderFrom
-order-first a b = refl
+-- ---- the order of two texts is that of their first n bytes, and where those are the same that of the rest
 
-module _ (a b : List ℕ) (i : ℕ) (here : OrderFrom a b i) where
-  pub byte-below : i < length a → i < length b → getD a i 0 < getD b i 0 → Below ≡ compareTexts a b
-  unfolding compareTexts byNumbers choose OrderFrom
-  byte-below ha hb h = rw (drop-cons a i 0 ha, drop-cons b i 0 hb, lt-ltb _ _ h) at here
+abbrev thenBy : Order → Order → Order
+thenBy Below r = Below
+thenBy Equal r = r
+thenBy Above r = Above
 
-  pub byte-above : i < length a → i < length b → getD b i 0 < getD a i 0 → Above ≡ compareTexts a b
-  unfolding compareTexts byNumbers choose OrderFrom
-  byte-above ha hb h =
-      let h' : getD b i 0 ≤ getD a i 0 = omega arith in
-      rw (drop-cons a i 0 ha, drop-cons b i 0 hb, le-ltb _ _ h', lt-ltb _ _ h) at here
+first-decides : (x y : ℕ) (o p r : Order) → o ≡ thenBy p r → byNumbers x y o ≡ thenBy (byNumbers x y p) r
+unfolding byNumbers choose
+first-decides x y o p r e = go (ltb x y) (ltb y x)
+  where
+    go : (l g : Bool) → choose l Below (choose g Above o) ≡ thenBy (choose l Below (choose g Above p)) r
+    go true g = refl
+    go false true = refl
+    go false false = e
 
-  pub byte-equal : i < length a → i < length b → getD b i 0 ≤ getD a i 0 → getD a i 0 ≤ getD b i 0 → OrderFrom a b (i + 1)
-  unfolding compareTexts byNumbers choose OrderFrom
-  byte-equal ha hb h h' = rw (add-one i) (rw (drop-cons a i 0 ha, drop-cons b i 0 hb, le-ltb _ _ h, le-ltb _ _ h') at here)
+by-parts : (n : ℕ) (a b : List ℕ) → n ≤ length a → n ≤ length b → compareTexts a b ≡ thenBy (compareTexts (take n a) (take n b)) (compareTexts (drop n a) (drop n b))
+unfolding compareTexts
+by-parts zero a b ha hb = refl
+by-parts (suc n) [] b ha hb = absurd (omega arith)
+by-parts (suc n) (x ∷ xs) [] ha hb = absurd (omega arith)
+by-parts (suc n) (x ∷ xs) (y ∷ ys) ha hb = first-decides x y (compareTexts xs ys) (compareTexts (take n xs) (take n ys)) (compareTexts (drop n xs) (drop n ys)) (by-parts n xs ys (omega arith) (omega arith))
 
-  pub second-ends : i < length a → length b ≤ i → Above ≡ compareTexts a b
-  unfolding compareTexts OrderFrom
-  second-ends ha hb = rw (drop-cons a i 0 ha, drop-of-length-le b hb) at here
+-- ---- one step over n bytes
 
-  pub first-ends : length a ≤ i → i < length b → Below ≡ compareTexts a b
-  unfolding compareTexts OrderFrom
-  first-ends ha hb = rw (drop-of-length-le a ha, drop-cons b i 0 hb) at here
+module _ (a b : List ℕ) (i s : ℕ) (here : ComparesFrom a b i s) (n : ℕ) (next : compareSteps (drop i a) (drop i b) ≡ step n compareSteps (drop i a) (drop i b))
+    (ha : i + n ≤ length a) (hb : i + n ≤ length b) where
+  parts : compareTexts a b ≡ thenBy (compareTexts (part a i n) (part b i n)) (compareTexts (drop (i + n) a) (drop (i + n) b))
+  unfolding ComparesFrom
+  parts =
+      let la = length-drop i a in
+      let lb = length-drop i b in
+      rw (drop-drop n i a, drop-drop n i b) at (sym (here .0) ∙ by-parts n (drop i a) (drop i b) (omega arith) (omega arith))
 
-  pub both-end : length a ≤ i → length b ≤ i → Equal ≡ compareTexts a b
-  unfolding compareTexts OrderFrom
-  both-end ha hb = rw (drop-of-length-le a ha, drop-of-length-le b hb) at here
+  counted : s + suc (choose (isEqual (compareTexts (part a i n) (part b i n))) (compareSteps (drop (i + n) a) (drop (i + n) b)) 0) ≡ compareSteps a b
+  unfolding ComparesFrom step alike
+  counted = rw (drop-drop n i a, drop-drop n i b) at (ap (λ (k : ℕ). s + k) (sym next) ∙ here .1)
 
--- ---- eight bytes at a step
+  step-below : compareTexts (part a i n) (part b i n) ≡ Below → (Below ≡ compareTexts a b) × (s + 1 ≡ compareSteps a b)
+  unfolding choose
+  step-below e = (sym (rw e at parts), rw e at counted)
 
--- texts whose next n bytes make the same number have the same bytes there
-same-bytes : (a b : List ℕ) → Bytes a → Bytes b → (n i : ℕ) → i + n ≤ length a → i + n ≤ length b → number a i n ≡ number b i n → OrderFrom a b i → OrderFrom a b (i + n)
-unfolding number
-same-bytes a b ga gb zero i ha hb e h = let z : i + 0 ≡ i = omega arith in rw z h
-same-bytes a b ga gb (suc n) i ha hb e h =
-    let x = ga i in
-    let y = gb i in
-    let first : getD a i 0 ≡ getD b i 0 = omega arith in
-    let rest : number a (i + 1) n ≡ number b (i + 1) n = omega arith in
-    let next = byte-equal a b i h (omega arith) (omega arith) (omega arith) (omega arith) in
-    let s : i + 1 + n ≡ i + suc n = omega arith in
-    rw s at (same-bytes a b ga gb n (i + 1) (omega arith) (omega arith) rest next)
+  step-above : compareTexts (part a i n) (part b i n) ≡ Above → (Above ≡ compareTexts a b) × (s + 1 ≡ compareSteps a b)
+  unfolding choose
+  step-above e = (sym (rw e at parts), rw e at counted)
 
-pub eight-read : (a b : List ℕ) (i x y : ℕ) → x ≡ number (take (length a - i) (drop i a)) 0 8 → y ≡ number (take (length b - i) (drop i b)) 0 8
-    → eqb x y ≡ eqb (number a i 8) (number b i 8)
-eight-read a b i x y ex ey = rw (ex, ey, number-part a i 8, number-part b i 8)
+  step-equal : compareTexts (part a i n) (part b i n) ≡ Equal → ComparesFrom a b (i + n) (s + 1)
+  unfolding ComparesFrom choose
+  step-equal e = (sym (rw e at parts), (let c = rw e at counted in omega arith))
 
-pub eight-equal : (a b : List ℕ) (i n stop : ℕ) (r : Bool) → r ≡ eqb (number a i 8) (number b i 8) → r ≡ true → ((k : ℕ) → Fits w8 (getD a k 0)) → ((k : ℕ) → Fits w8 (getD b k 0))
-    → n ≤ length a → n ≤ length b → stop ≤ n → i % 8 ≡ 0 → stop % 8 ≡ 0 → i < stop → OrderFrom a b i → OrderFrom a b (i + 8)
-eight-equal a b i n stop r e t ga gb ha hb u v w h g =
-    let yes : T (eqb (number a i 8) (number b i 8)) = subst T (sym t ∙ e) tt in
-    same-bytes a b (λ k. ga k .fits) (λ k. gb k .fits) 8 i (omega arith) (omega arith) (eqb→eq (number a i 8) (number b i 8) yes) g
+-- ---- eight bytes
 
-pub ruleset answers = (order-first, eight-read, eight-equal, byte-below, byte-above, byte-equal, second-ends, first-ends, both-end, needs)
+module _ (a b : List ℕ) (i x y : ℕ) (ha : i + 8 ≤ length a) (hb : i + 8 ≤ length b) (ex : x ≡ number (take (length a - i) (drop i a)) 0 8)
+    (ey : y ≡ number (take (length b - i) (drop i b)) 0 8) (ga : (k : ℕ) → Fits w8 (getD a k 0)) (gb : (k : ℕ) → Fits w8 (getD b k 0)) where
+  by-swapped : compareTexts (part a i 8) (part b i 8) ≡ compareNumbers (swapped 8 x) (swapped 8 y)
+  by-swapped = rw (ex, ey, number-part a i 8, number-part b i 8) (swapped-order a b (λ k. ga k .fits) (λ k. gb k .fits) 8 i ha hb)
+
+  pub eight-equal : x ≡ y → Equal ≡ compareTexts (part a i 8) (part b i 8)
+  eight-equal e = sym (by-swapped ∙ numbers-equal (swapped 8 x) (swapped 8 y) .1 (ap (swapped 8) e))
+
+  module _ (p q : ℕ) (ep : p ≡ swapped 8 x) (eq : q ≡ swapped 8 y) where
+    pub eight-below : p < q → Below ≡ compareTexts (part a i 8) (part b i 8)
+    eight-below l = sym (by-swapped ∙ numbers-below (swapped 8 x) (swapped 8 y) .1 (rw (ep, eq) at l))
+
+    pub eight-above : (x ≡ y → ⊥) → q ≤ p → Above ≡ compareTexts (part a i 8) (part b i 8)
+    eight-above n l =
+        let hx : x < 256 ^ 8 = rw (ex, number-part a i 8) (number-below 8 a i 8 (omega arith) (λ k. ga k .fits)) in
+        let hy : y < 256 ^ 8 = rw (ey, number-part b i 8) (number-below 8 b i 8 (omega arith) (λ k. gb k .fits)) in
+        let g : swapped 8 y < swapped 8 x = by-numbers (λ _. swapped 8 y < swapped 8 x) p q Equal (λ h. absurd (omega arith)) (λ h. absurd (n (swapped-one 8 x y hx hy (sym ep ∙ h ∙ eq)))) (λ h. rw (ep, eq) at h) in
+        sym (by-swapped ∙ numbers-above (swapped 8 x) (swapped 8 y) .1 g)
+
+pub ruleset eight-laws = (eight-equal, eight-below, eight-above, needs)
+
+-- ---- from a place on
+
+pub compares-first : (a b : List ℕ) → ComparesFrom a b 0 0
+unfolding ComparesFrom
+compares-first a b = (refl, omega arith)
+
+module _ (a b : List ℕ) (i s : ℕ) (here : ComparesFrom a b i s) where
+  module _ (n stop : ℕ) (en : n ≡ min (length a) (length b)) (es : stop ≡ n - n % 8) (before : i < stop) (whole : i % 8 ≡ 0) where
+    next-eight : compareSteps (drop i a) (drop i b) ≡ step 8 compareSteps (drop i a) (drop i b)
+    next-eight =
+        let la = length-drop i a in
+        let lb = length-drop i b in
+        steps-eight (drop i a) (drop i b) (omega arith)
+
+    module _ (o : Order) (e : o ≡ compareTexts (part a i 8) (part b i 8)) where
+      pub eights-below : o ≡ Below → Below ≡ compareTexts a b
+      eights-below q = step-below a b i s here 8 next-eight (omega arith) (omega arith) (sym e ∙ q) .0
+
+      pub below-counted : o ≡ Below → s + 1 ≡ compareSteps a b
+      below-counted q = step-below a b i s here 8 next-eight (omega arith) (omega arith) (sym e ∙ q) .1
+
+      pub eights-above : o ≡ Above → Above ≡ compareTexts a b
+      eights-above q = step-above a b i s here 8 next-eight (omega arith) (omega arith) (sym e ∙ q) .0
+
+      pub above-counted : o ≡ Above → s + 1 ≡ compareSteps a b
+      above-counted q = step-above a b i s here 8 next-eight (omega arith) (omega arith) (sym e ∙ q) .1
+
+      pub eights-equal : o ≡ Equal → ComparesFrom a b (i + 8) (s + 1)
+      eights-equal q = step-equal a b i s here 8 next-eight (omega arith) (omega arith) (sym e ∙ q)
+
+  module _ (n : ℕ) (en : n ≡ min (length a) (length b)) where
+    module _ (few : n < i + 8) (before : i < n) where
+      next-one : compareSteps (drop i a) (drop i b) ≡ step 1 compareSteps (drop i a) (drop i b)
+      next-one =
+          let la = length-drop i a in
+          let lb = length-drop i b in
+          steps-one (drop i a) (drop i b) (omega arith) (omega arith)
+
+      one-byte : compareTexts (part a i 1) (part b i 1) ≡ compareNumbers (getD a i 0) (getD b i 0)
+      unfolding compareTexts
+      one-byte = rw (drop-cons a i 0 (omega arith), drop-cons b i 0 (omega arith))
+
+      below : getD a i 0 < getD b i 0 → (Below ≡ compareTexts a b) × (s + 1 ≡ compareSteps a b)
+      below l = step-below a b i s here 1 next-one (omega arith) (omega arith) (one-byte ∙ numbers-below (getD a i 0) (getD b i 0) .1 l)
+
+      above : getD b i 0 < getD a i 0 → (Above ≡ compareTexts a b) × (s + 1 ≡ compareSteps a b)
+      above g = step-above a b i s here 1 next-one (omega arith) (omega arith) (one-byte ∙ numbers-above (getD a i 0) (getD b i 0) .1 g)
+
+      pub byte-below : getD a i 0 < getD b i 0 → Below ≡ compareTexts a b
+      byte-below l = below l .0
+
+      pub byte-below-counted : getD a i 0 < getD b i 0 → s + 1 ≡ compareSteps a b
+      byte-below-counted l = below l .1
+
+      pub byte-above : getD b i 0 < getD a i 0 → Above ≡ compareTexts a b
+      byte-above g = above g .0
+
+      pub byte-above-counted : getD b i 0 < getD a i 0 → s + 1 ≡ compareSteps a b
+      byte-above-counted g = above g .1
+
+      pub byte-equal : getD b i 0 ≤ getD a i 0 → getD a i 0 ≤ getD b i 0 → ComparesFrom a b (i + 1) (s + 1)
+      byte-equal g l = step-equal a b i s here 1 next-one (omega arith) (omega arith) (one-byte ∙ numbers-equal (getD a i 0) (getD b i 0) .1 (omega arith))
+
+    module _ (end : n ≤ i) (inside : i ≤ n) where
+      pub end-counted : s ≡ compareSteps a b
+      unfolding ComparesFrom
+      end-counted =
+          let la = length-drop i a in
+          let lb = length-drop i b in
+          let z = steps-none (drop i a) (drop i b) (omega arith) in
+          let h = here .1 in
+          omega arith
+
+      pub first-ends : length a < length b → Below ≡ compareTexts a b
+      unfolding compareTexts ComparesFrom
+      first-ends l = rw (drop-of-length-le a {i = i} (omega arith), drop-cons b i 0 (omega arith)) at (here .0)
+
+      pub second-ends : length b < length a → Above ≡ compareTexts a b
+      unfolding compareTexts ComparesFrom
+      second-ends g = rw (drop-cons a i 0 (omega arith), drop-of-length-le b {i = i} (omega arith)) at (here .0)
+
+      pub both-end : length b ≤ length a → length a ≤ length b → Equal ≡ compareTexts a b
+      unfolding compareTexts ComparesFrom
+      both-end g l = rw (drop-of-length-le a {i = i} (omega arith), drop-of-length-le b {i = i} (omega arith)) at (here .0)
+
+pub ruleset eights-laws = (compares-first, eights-below, below-counted, eights-above, above-counted, eights-equal, needs)
+
+pub ruleset bytes-laws = (byte-below, byte-below-counted, byte-above, byte-above-counted, byte-equal, first-ends, second-ends, both-end, end-counted, needs)
 
 -- ---- are two texts the same?
 

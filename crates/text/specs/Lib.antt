@@ -1,2 +1,4 @@
-pub mod OrderFrom
+pub mod ComparesFrom
 pub mod Hash
+pub mod Steps
+pub mod Swapped

@@ -1,54 +1,65 @@
-use Prim.Native.Nat.{_-_, _≤_}
-use lib.ListN.{length}
-use Rattle.text.specs.OrderFrom.{OrderFrom}
-use Rattle.text.proofs.Laws.{answers}
+use mathlib.Core.Path.{_≡_}
+use Prim.Native.Nat.{_-_, _%_, _≤_}
+use Rattle.text.specs.ComparesFrom.{ComparesFrom}
+use Rattle.text.proofs.Laws.{eights-laws}
 use Rattle.text.proofs.compare.Statement.{statement}
 use Rattle.text.proofs.compare.Tie as tie
 use Rattle.text.proofs.compare.Reads as reads
 use Rattle.text.proofs.compare.Lts as lts
-use Rattle.text.proofs.pass_equal.Reads as pass-equal-reads
+use Rattle.text.proofs.compare_eight.Reads as compare-eight-reads
+use Rattle.text.proofs.compare_rest.Reads as compare-rest-reads
+use Rattle.text.proofs.shorter.Reads as shorter-reads
 
 abbrev Inv-loop : tie.InvT-loop
-Inv-loop a b i₀ i = (i ≤ length a) × OrderFrom a b i
+Inv-loop a b n stop i₀ steps₀ i steps = (i % 8 ≡ 0) × (i ≤ stop) × (steps ≤ i) × ComparesFrom a b i steps
 
 abbrev μ-loop : tie.MeasureT-loop
-μ-loop a b i₀ i = length a - i
+μ-loop a b n stop i₀ steps₀ i steps = stop - i
 
-pass-equal-requires : tie.Need-pass-equal-requires Inv-loop μ-loop
-pass-equal-requires c κs = search answers
+shorter-requires : tie.Need-shorter-requires Inv-loop μ-loop
+shorter-requires c κs = search eights-laws
+
+sub-stop : tie.Need-sub-stop Inv-loop μ-loop
+sub-stop c = search eights-laws
 
 loop-holds : tie.Need-loop-holds Inv-loop μ-loop
-loop-holds c = search answers
+loop-holds c = search eights-laws
+
+add-steps : tie.Need-add-steps Inv-loop μ-loop
+add-steps c = search eights-laws
+
+compare-eight-requires : tie.Need-compare-eight-requires Inv-loop μ-loop
+compare-eight-requires c κs = search eights-laws
+
+enum-told : tie.Need-enum-told Inv-loop μ-loop
+enum-told c = search eights-laws
 
 returns : tie.Need-returns Inv-loop μ-loop
-returns c = search answers
+returns c = search eights-laws
 
-shared-slice-read-x : tie.Need-shared-slice-read-x Inv-loop μ-loop
-shared-slice-read-x c = search answers
-
-shared-slice-read-y : tie.Need-shared-slice-read-y Inv-loop μ-loop
-shared-slice-read-y c = search answers
+enum-told-2 : tie.Need-enum-told-2 Inv-loop μ-loop
+enum-told-2 c = search eights-laws
 
 returns-2 : tie.Need-returns-2 Inv-loop μ-loop
-returns-2 c = search answers
+returns-2 c = search eights-laws
 
-returns-3 : tie.Need-returns-3 Inv-loop μ-loop
-returns-3 c = search answers
+enum-told-3 : tie.Need-enum-told-3 Inv-loop μ-loop
+enum-told-3 c = search eights-laws
 
 add-i : tie.Need-add-i Inv-loop μ-loop
-add-i c = search answers
+add-i c = search eights-laws
 
 loop-less : tie.Need-loop-less Inv-loop μ-loop
-loop-less c = search answers
+loop-less c = search eights-laws
 
 loop-again : tie.Need-loop-again Inv-loop μ-loop
-loop-again c = search answers
+loop-again c = search eights-laws
 
-returns-4 : tie.Need-returns-4 Inv-loop μ-loop
-returns-4 c = search answers
+compare-rest-requires : tie.Need-compare-rest-requires Inv-loop μ-loop
+compare-rest-requires c κs = search eights-laws
 
-returns-5 : tie.Need-returns-5 Inv-loop μ-loop
-returns-5 c = search answers
+returns-3 : tie.Need-returns-3 Inv-loop μ-loop
+returns-3 c = search eights-laws
 
 pub compare-spec : {M : Type 1} → statement M
 compare-spec =
@@ -56,15 +67,18 @@ compare-spec =
     (tie.spec
     Inv-loop
     μ-loop
-    pass-equal-requires
+    shorter-requires
+    sub-stop
     loop-holds
+    add-steps
+    compare-eight-requires
+    enum-told
     returns
-    shared-slice-read-x
-    shared-slice-read-y
+    enum-told-2
     returns-2
-    returns-3
+    enum-told-3
     add-i
     loop-less
     loop-again
-    returns-4
-    returns-5)
+    compare-rest-requires
+    returns-3)

@@ -15,8 +15,8 @@ enum-known-t c = search needs
 bytes-requires : tie.Need-bytes-requires
 bytes-requires c κs = search text-laws
 
-compare-requires : tie.Need-compare-requires
-compare-requires c κs = search needs
+order-requires : tie.Need-order-requires
+order-requires c κs = search needs
 
 returns : tie.Need-returns
 returns c = search text-laws
@@ -32,6 +32,6 @@ compare-text-spec =
     enum-told
     enum-known-t
     bytes-requires
-    compare-requires
+    order-requires
     returns
     returns-2)

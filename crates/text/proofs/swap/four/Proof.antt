@@ -1,0 +1,25 @@
+use borrow.Author.Needs.{needs}
+use Rattle.text.proofs.Swapped.{swap-laws}
+use Rattle.text.proofs.swap.four.Statement.{statement}
+use Rattle.text.proofs.swap.four.Tie as tie
+use Rattle.text.proofs.swap.four.Reads as reads
+use Rattle.text.proofs.swap.four.Lts as lts
+use Rattle.text.proofs.swap.two.Reads as two-reads
+
+two-requires : tie.Need-two-requires
+two-requires c κs = search needs
+
+mul-result : tie.Need-mul-result
+mul-result c = search needs
+
+two-requires-2 : tie.Need-two-requires-2
+two-requires-2 c κs = search needs
+
+add-result : tie.Need-add-result
+add-result c = search needs
+
+returns : tie.Need-returns
+returns c = search swap-laws
+
+pub four-spec : {M : Type 1} → statement M
+four-spec = tie.close (tie.spec two-requires mul-result two-requires-2 add-result returns)
