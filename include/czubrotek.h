@@ -1,4 +1,4 @@
-/* The C functions of the proved readers for BinaryJson and Fractured JSON.
+/* The C functions of the proved readers for BinaryJson and Fractured JSON, and of the comparing of texts.
 
    A question's cursor is an offset in the document; every cursor, index, count and key is answered or refused. A call
    returns 0 and writes its values over the first of the lent words at `out`, or returns the number of a refusal (document
@@ -129,6 +129,14 @@ uint32_t fj_first_member(const uint8_t *doc, size_t doc_len, const uint8_t *list
    length, and the offset of the value, which starts where the key ends, or a refusal; needs 4 words. */
 uint32_t fj_key(const uint8_t *doc, size_t doc_len, const uint8_t *list, size_t list_len, const uint32_t *keys,
                 size_t keys_len, size_t count, size_t at, uint64_t *out, size_t out_len);
+
+/* ---- Texts: any bytes, zeros among them */
+
+/* Compares two texts as unsigned bytes, a prefix before the longer: eight bytes at a step where eight are left in both, else
+   one while both have one, through the first step that differs.
+   Returns 0 and writes 0 where the first is below the second, 1 where they are equal, 2 where it is above, and the number of
+   steps; needs 2 words. */
+uint32_t text_compare(const uint8_t *a, size_t a_len, const uint8_t *b, size_t b_len, uint64_t *out, size_t out_len);
 
 #ifdef __cplusplus
 }

@@ -1,5 +1,5 @@
 /* Runs the bench specimens of document 01 through the C header: the fourteen, the lookups with their counts, and the
-   documents at the limits; and key lists. Prints a line for each failed case, and the number of cases. */
+   documents at the limits; and key lists, and texts. Prints a line for each failed case, and the number of cases. */
 #include <inttypes.h>
 #include <stdio.h>
 #include <string.h>
@@ -347,6 +347,40 @@ static void global_keys(void) {
     EXPECT("first member b", fj_first_member(doc, len, a_bc, 10, keys, 4, 1, 3, b, 1, out, 4), 0, 0);
 }
 
+static uint32_t compare(const char *a, size_t a_len, const char *b, size_t b_len) {
+    lend();
+    return text_compare((const uint8_t *)a, a_len, (const uint8_t *)b, b_len, out, 4);
+}
+
+/* two texts between quotes, without the zero that C puts at their ends */
+#define COMPARE(a, b) compare(a, sizeof(a) - 1, b, sizeof(b) - 1)
+
+static void texts(void) {
+    EXPECT("no bytes", COMPARE("", ""), 0, 1, 0);
+    EXPECT("no bytes and a zero", COMPARE("", "\0"), 0, 0, 0);
+    EXPECT("three bytes", COMPARE("air", "air"), 0, 1, 3);
+    EXPECT("a prefix", COMPARE("air", "airy"), 0, 0, 3);
+    EXPECT("a prefix second", COMPARE("airy", "air"), 0, 2, 3);
+    EXPECT("zeros inside", COMPARE("a\0c", "a\0b"), 0, 2, 3);
+    EXPECT("no sign", COMPARE("\x7F", "\x80"), 0, 0, 1);
+    EXPECT("seven bytes", COMPARE("sensor/", "sensor/"), 0, 1, 7);
+    EXPECT("eight bytes", COMPARE("sensor/0", "sensor/0"), 0, 1, 1);
+    EXPECT("seven of eight bytes", COMPARE("sensor/", "sensor/0"), 0, 0, 7);
+    EXPECT("the first and the last of eight", COMPARE("1ensor/2", "2ensor/1"), 0, 0, 1);
+    EXPECT("the ninth byte", COMPARE("sensor/08", "sensor/07"), 0, 2, 2);
+    EXPECT("the sixteenth byte", COMPARE("sensor/07/air/07", "sensor/07/air/08"), 0, 0, 2);
+    EXPECT("the fifteenth of fifteen", COMPARE("sensor/07/air/0", "sensor/07/air/1"), 0, 0, 8);
+    lend();
+    expect("texts, too few words", text_compare(doc, 8, doc, 8, out, 1), CZUBROTEK_TOO_FEW, 0, NULL);
+
+    start("");
+    fill('x', longest);
+    lend();
+    EXPECT("the longest text", text_compare(doc, longest, doc, longest, out, 4), 0, 1, longest / 8);
+    lend();
+    EXPECT("one byte less", text_compare(doc, longest, doc, longest - 1, out, 4), 0, 2, longest / 8 - 1 + 7);
+}
+
 int main(void) {
     fourteen();
     binary_questions();
@@ -355,6 +389,7 @@ int main(void) {
     table();
     lists();
     global_keys();
+    texts();
     printf("c: %d cases\n", cases);
     return failed != 0;
 }

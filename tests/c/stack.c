@@ -143,6 +143,7 @@ CALL(fj_element, KEYS, count, 3, 1)
 CALL(fj_member, KEYS, count, 3, 1)
 CALL(fj_first_member, KEYS, count, 3, B)
 CALL(fj_key, KEYS, count, key_at)
+CALL(text_compare, list, sizeof list, list, sizeof list - 1)
 
 struct call {
     const char *name;
@@ -154,13 +155,13 @@ struct call {
 #define ROW(name) {#name, run_##name, limit_not_walking, 0, 0, 0}
 #define WALK(name) {#name, run_##name, limit_walking, 0, 0, 0}
 
-enum { binary_calls = 11, calls = 21 };
+enum { binary_calls = 11, calls = 22 };
 
 static struct call table[calls] = {
     WALK(bj_check),  ROW(bj_kind_and_size), ROW(bj_element), ROW(bj_member),       ROW(bj_entry_type), ROW(bj_container),
     ROW(bj_string),  ROW(bj_number),        ROW(bj_slot),    ROW(bj_quick_lookup), ROW(bj_plain_scan), ROW(fj_check_list),
     WALK(fj_check),  WALK(fj_end),          ROW(fj_kind),    ROW(fj_number),       ROW(fj_string),     WALK(fj_element),
-    WALK(fj_member), WALK(fj_first_member), ROW(fj_key),
+    WALK(fj_member), WALK(fj_first_member), ROW(fj_key),     ROW(text_compare),
 };
 
 /* ---- measuring */

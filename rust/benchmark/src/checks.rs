@@ -70,7 +70,7 @@ fn season_row(document: fn(&Tree) -> Vec<u8>, check: fn(Vec<u8>) -> Case) -> Row
 pub fn distinct_keys() -> Vec<Row> {
     let of_keys = |n| {
         row(format!("{n} keys"), move || {
-            let tree = object(n, digits(n), false);
+            let tree = object(n, digits(n), 0);
             (fractured_check(fractured_document(&tree)), n)
         })
     };

@@ -74,7 +74,7 @@ fn shapes() -> Vec<Parts> {
             array(n, |i| Tree::Text(format!("{i:08}").into_bytes()))
         }),
         ("objects of 4 members", |n| {
-            let keys: Vec<_> = (0..4).map(|i| key(i, 1, false)).collect();
+            let keys: Vec<_> = (0..4).map(|i| key(i, 1, 0)).collect();
             objects_of(&keys, 4, n)
         }),
         ("values of all kinds in random order", |n| {
@@ -125,7 +125,7 @@ fn binary_shapes() -> Vec<Growing> {
         })
     };
     let own: [Parts; 3] = [
-        ("one object", |n| object(n, 4, false)),
+        ("one object", |n| object(n, 4, 0)),
         ("strings that share 248 bytes", |n| {
             array(n, |i| Tree::Text(alike(248, i)))
         }),
@@ -149,7 +149,7 @@ fn binary_shapes() -> Vec<Growing> {
 
 /// The i-th of texts that share so many bytes, and have four more.
 fn alike(shared: usize, i: usize) -> Vec<u8> {
-    [vec![b's'; shared], key(i, 4, false)].concat()
+    [vec![b's'; shared], key(i, 4, 0)].concat()
 }
 
 fn fractured_shapes() -> Vec<Growing> {
@@ -159,7 +159,7 @@ fn fractured_shapes() -> Vec<Growing> {
         })
     };
     let back_references: Parts = ("4,096 keys, then back references", |n| {
-        let keys: Vec<_> = (0..MOST_KEYS).map(|i| key(i, 2, false)).collect();
+        let keys: Vec<_> = (0..MOST_KEYS).map(|i| key(i, 2, 0)).collect();
         objects_of(&keys, 64, n)
     });
     shapes()

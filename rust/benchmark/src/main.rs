@@ -1,4 +1,5 @@
 //! Times the proved readers and the plain ones in one process and prints tables of the ratios: `cargo run --release -p benchmark`.
+//! With an argument, only the tables whose names contain it: `cargo run --release -p benchmark -- lookup`.
 //!
 //! Where valgrind is installed, the instructions of one call stand beside the times.
 
@@ -36,11 +37,14 @@ fn measure<const N: usize>(made: [Made; N], hostile: bool, counter: &mut Counter
 }
 
 fn main() {
-    if env::args().nth(1).as_deref() == Some(instructions::COUNTED) {
+    // every name contains the empty one
+    let wanted = env::args().nth(1).unwrap_or_default();
+    if wanted == instructions::COUNTED {
         return instructions::serve();
     }
     let mut counter = Counter::start();
-    for mut table in tables::tables() {
+    let tables = tables::tables().into_iter();
+    for mut table in tables.filter(|table| table.name.contains(&wanted)) {
         let hostile = table.kind == Kind::Hostile;
         let rows: Vec<_> = mem::take(&mut table.rows)
             .into_iter()
@@ -48,7 +52,8 @@ fn main() {
             .collect();
         print::table(&table, &rows);
     }
-    for table in growth::tables() {
+    let tables = growth::tables().into_iter();
+    for table in tables.filter(|table| table.name.contains(&wanted)) {
         let shapes: Vec<_> = table
             .shapes
             .iter()

@@ -67,14 +67,13 @@ pub fn season(steps: usize) -> Tree {
     scenario("season", steps)
 }
 
-/// The i-th key: so many digits of base 64, or after 24 bytes that all keys share. Keys ascend with i.
-pub fn key(i: usize, digits: u32, prefixed: bool) -> Vec<u8> {
+/// What keys may share: so many of its last bytes.
+const PREFIX: &[u8; 24] = b"greenhouse/north/sensor/";
+
+/// The i-th key: so many digits of base 64, after a prefix of so many bytes, at most 24. Keys ascend with i.
+pub fn key(i: usize, digits: u32, prefix: usize) -> Vec<u8> {
     let digits = (0..digits).rev().map(|d| b'0' + (i >> (6 * d) & 63) as u8);
-    let prefix: &[u8] = if prefixed {
-        b"greenhouse/north/sensor/"
-    } else {
-        b""
-    };
+    let prefix = &PREFIX[PREFIX.len() - prefix..];
     prefix.iter().copied().chain(digits).collect()
 }
 
@@ -83,10 +82,10 @@ pub fn digits(members: usize) -> u32 {
     if members <= 4096 { 2 } else { 3 }
 }
 
-pub fn object(members: usize, digits: u32, prefixed: bool) -> Tree {
+pub fn object(members: usize, digits: u32, prefix: usize) -> Tree {
     Tree::Object(
         (0..members)
-            .map(|i| (key(i, digits, prefixed), Tree::Bool(i % 3 == 0)))
+            .map(|i| (key(i, digits, prefix), Tree::Bool(i % 3 == 0)))
             .collect(),
     )
 }
@@ -127,11 +126,11 @@ pub fn shapes() -> Vec<Shape> {
     let deep = (0..60).map(|_| levels(28)).collect();
     vec![
         shape("nested scenario", scenario("frost night", NIGHT)),
-        shape("object of 4", object(4, 2, false)),
-        shape("object of 64", object(64, 2, false)),
-        shape("object of 4,096", object(4096, 2, false)),
-        shape("object of 64, long prefix", object(64, 2, true)),
-        shape("object of 1,600, long prefix", object(1600, 2, true)),
+        shape("object of 4", object(4, 2, 0)),
+        shape("object of 64", object(64, 2, 0)),
+        shape("object of 4,096", object(4096, 2, 0)),
+        shape("object of 64, long prefix", object(64, 2, 24)),
+        shape("object of 1,600, long prefix", object(1600, 2, 24)),
         shape("array of numbers", numbers(4000)),
         shape("30 levels", Tree::Array(deep)),
     ]

@@ -86,6 +86,8 @@ functions! {
     fn fj_member(&[u8] doc, &[u8] list, &[u32] keys, u64 count, u64 at, u64 j);
     fn fj_first_member(&[u8] doc, &[u8] list, &[u32] keys, u64 count, u64 at, &[u8] key);
     fn fj_key(&[u8] doc, &[u8] list, &[u32] keys, u64 count, u64 at);
+
+    fn text_compare(&[u8] a, &[u8] b);
 }
 
 #[cfg(test)]

@@ -1,4 +1,5 @@
-//! Proved readers for two binary JSON formats, [BinaryJson](binary_json) and [Fractured JSON](fractured_json).
+//! Proved readers for two binary JSON formats, [BinaryJson](binary_json) and [Fractured JSON](fractured_json), and the
+//! comparing of two [texts](text).
 //!
 //! Every answer is the proved library's; this package gives it Rust's types. A `Document` borrows its bytes and copies
 //! nothing. Nothing panics, on any bytes, cursor or key.
@@ -26,6 +27,7 @@ pub mod binary_json;
 mod container;
 pub mod fractured_json;
 mod refusal;
+pub mod text;
 
 pub use refusal::Refusal;
 

@@ -245,6 +245,27 @@ pub mod fractured_json {
     }
 }
 
+pub mod text {
+    use super::*;
+    use std::cmp::Ordering;
+
+    pub fn compare(a: &[u8], b: &[u8]) -> (Ordering, u64) {
+        let compared = ask(
+            |out| sys::text_compare(a, b, out),
+            |&[order, steps]| {
+                let order = match order {
+                    0 => Ordering::Less,
+                    1 => Ordering::Equal,
+                    2 => Ordering::Greater,
+                    _ => panic!("no order has the number {order}"),
+                };
+                ((order, steps), 2)
+            },
+        );
+        compared.expect("no text is refused")
+    }
+}
+
 /// The calls that are timed: no test stands around them.
 pub mod timed {
     use super::sys;

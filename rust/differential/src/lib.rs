@@ -1,4 +1,4 @@
-//! The proved readers and the plain ones, compared on generated and spoilt documents.
+//! The proved readers and the plain ones, compared on generated and spoilt documents, and on texts.
 //!
 //! A document is made from a seed, so that a failure can be made again; it is printed in hexadecimal if it is not long.
 
@@ -22,12 +22,12 @@ fn named(variable: &str, otherwise: u64) -> u64 {
     value.and_then(|n| n.parse().ok()).unwrap_or(otherwise)
 }
 
-/// How many documents of each format are compared: as many as `CZUBROTEK_DOCUMENTS` says, else 110,000.
+/// How many documents of each format are compared, and pairs of short texts: as many as `CZUBROTEK_DOCUMENTS` says, else 110,000.
 pub fn documents() -> u64 {
     named("CZUBROTEK_DOCUMENTS", 110_000)
 }
 
-/// How many large documents of each format are compared: as many as `CZUBROTEK_LARGE_DOCUMENTS` says, else 400.
+/// How many large documents of each format are compared, and pairs of long texts: as many as `CZUBROTEK_LARGE_DOCUMENTS` says, else 400.
 pub fn large_documents() -> u64 {
     named("CZUBROTEK_LARGE_DOCUMENTS", 400)
 }

@@ -1,9 +1,10 @@
-//! The refusal and the answer that both readers share, and the readers themselves as two modules.
+//! The refusal and the answer that both readers share, the readers themselves as two modules, and the comparing of two texts.
 
 #![forbid(unsafe_code)]
 
 pub mod binary_json;
 pub mod fractured_json;
+pub mod text;
 
 /// Longest document of either format, in bytes (rules 2 and 32).
 const MAX_LENGTH: usize = 16_777_216;
