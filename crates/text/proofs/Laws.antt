@@ -5,9 +5,10 @@ use mathlib.Core.List.{List, [], _∷_}
 use Prim.Native.Nat.{ℕ, zero, suc, _+_, _-_, _*_, _/_, _%_, _^_, _≤_, _<_, min}
 use native.Mathlib.Omega.{arith}
 use borrow.Author.Needs.{needs}
+use borrow.Author.Tests.{eqb-true, eqb-false}
 use mir.Syntax.{w8}
 use mir.Val.{Fits}
-use lib.Dec.{ltb}
+use lib.Dec.{eqb, ltb}
 use lib.ListN.{length, take, drop, getD, length-drop, drop-of-length-le}
 use lib.Seq.{drop-cons, drop-drop}
 use Rattle.json.specs.Bytes.{Bytes, number, part}
@@ -17,7 +18,7 @@ use Rattle.json.proofs.Texts.{by-numbers, texts-equal, numbers-below, numbers-e
 use Rattle.json.specs.declared.Order.{Order}
 use Rattle.json.specs.declared.Order.the-variants.{Below, Equal, Above}
 use Rattle.word.proofs.Laws.{number-below, number-part}
-use Rattle.text.specs.ComparesFrom.{ComparesFrom}
+use Rattle.text.specs.Comparing.{ComparesFrom, Passed}
 use Rattle.text.specs.Steps.{alike, step, compareSteps}
 use Rattle.text.specs.Swapped.{swapped}
 use Rattle.text.proofs.Steps.{steps-eight, steps-one, steps-none}
@@ -75,57 +76,89 @@ module _ (a b : List ℕ) (i s : ℕ) (here : ComparesFrom a b i s) (n : ℕ) (n
 
 -- ---- eight bytes
 
-module _ (a b : List ℕ) (i x y : ℕ) (ha : i + 8 ≤ length a) (hb : i + 8 ≤ length b) (ex : x ≡ number (take (length a - i) (drop i a)) 0 8)
-    (ey : y ≡ number (take (length b - i) (drop i b)) 0 8) (ga : (k : ℕ) → Fits w8 (getD a k 0)) (gb : (k : ℕ) → Fits w8 (getD b k 0)) where
-  by-swapped : compareTexts (part a i 8) (part b i 8) ≡ compareNumbers (swapped 8 x) (swapped 8 y)
-  by-swapped = rw (ex, ey, number-part a i 8, number-part b i 8) (swapped-order a b (λ k. ga k .fits) (λ k. gb k .fits) 8 i ha hb)
+pub eight-read : (a b : List ℕ) (i x y : ℕ) → x ≡ number (take (length a - i) (drop i a)) 0 8 → y ≡ number (take (length b - i) (drop i b)) 0 8
+    → eqb x y ≡ eqb (number a i 8) (number b i 8)
+eight-read a b i x y ex ey = rw (ex, ey, number-part a i 8, number-part b i 8)
 
-  pub eight-equal : x ≡ y → Equal ≡ compareTexts (part a i 8) (part b i 8)
-  eight-equal e = sym (by-swapped ∙ numbers-equal (swapped 8 x) (swapped 8 y) .1 (ap (swapped 8) e))
-
-  module _ (p q : ℕ) (ep : p ≡ swapped 8 x) (eq : q ≡ swapped 8 y) where
-    pub eight-below : p < q → Below ≡ compareTexts (part a i 8) (part b i 8)
-    eight-below l = sym (by-swapped ∙ numbers-below (swapped 8 x) (swapped 8 y) .1 (rw (ep, eq) at l))
-
-    pub eight-above : (x ≡ y → ⊥) → q ≤ p → Above ≡ compareTexts (part a i 8) (part b i 8)
-    eight-above n l =
-        let hx : x < 256 ^ 8 = rw (ex, number-part a i 8) (number-below 8 a i 8 (omega arith) (λ k. ga k .fits)) in
-        let hy : y < 256 ^ 8 = rw (ey, number-part b i 8) (number-below 8 b i 8 (omega arith) (λ k. gb k .fits)) in
-        let g : swapped 8 y < swapped 8 x = by-numbers (λ _. swapped 8 y < swapped 8 x) p q Equal (λ h. absurd (omega arith)) (λ h. absurd (n (swapped-one 8 x y hx hy (sym ep ∙ h ∙ eq)))) (λ h. rw (ep, eq) at h) in
-        sym (by-swapped ∙ numbers-above (swapped 8 x) (swapped 8 y) .1 g)
-
-pub ruleset eight-laws = (eight-equal, eight-below, eight-above, needs)
-
--- ---- from a place on
-
-pub compares-first : (a b : List ℕ) → ComparesFrom a b 0 0
+pub passed-first : (a b : List ℕ) → ComparesFrom a b 0 (0 / 8)
 unfolding ComparesFrom
-compares-first a b = (refl, omega arith)
+passed-first a b = (refl, omega arith)
+
+module _ (a b : List ℕ) (i : ℕ) (ga : (k : ℕ) → Fits w8 (getD a k 0)) (gb : (k : ℕ) → Fits w8 (getD b k 0)) (ha : i + 8 ≤ length a) (hb : i + 8 ≤ length b) where
+  by-swapped : compareTexts (part a i 8) (part b i 8) ≡ compareNumbers (swapped 8 (number a i 8)) (swapped 8 (number b i 8))
+  by-swapped = swapped-order a b (λ k. ga k .fits) (λ k. gb k .fits) 8 i ha hb
+
+  next-eight : compareSteps (drop i a) (drop i b) ≡ step 8 compareSteps (drop i a) (drop i b)
+  next-eight =
+      let la = length-drop i a in
+      let lb = length-drop i b in
+      steps-eight (drop i a) (drop i b) (omega arith)
+
+  eight-passed : number a i 8 ≡ number b i 8 → ComparesFrom a b i (i / 8) → ComparesFrom a b (i + 8) ((i + 8) / 8)
+  eight-passed e here =
+      let q : (i + 8) / 8 ≡ i / 8 + 1 = omega arith in
+      let same : compareTexts (part a i 8) (part b i 8) ≡ Equal = by-swapped ∙ numbers-equal (swapped 8 (number a i 8)) (swapped 8 (number b i 8)) .1 (ap (swapped 8) e) in
+      rw q (step-equal a b i (i / 8) here 8 next-eight ha hb same)
+
+  module _ (passed : Passed a b i) where
+    here : ComparesFrom a b i (i / 8)
+    unfolding Passed
+    here = passed .1
+
+    unlike : swapped 8 (number a i 8) ≡ swapped 8 (number b i 8) → ⊥
+    unfolding Passed
+    unlike e =
+        passed .0 (omega arith)
+        (swapped-one 8 (number a i 8) (number b i 8) (number-below 8 a i 8 (omega arith) (λ k. ga k .fits)) (number-below 8 b i 8 (omega arith) (λ k. gb k .fits)) e)
+
+    is-below : swapped 8 (number a i 8) < swapped 8 (number b i 8) → (Below ≡ compareTexts a b) × (i / 8 + 1 ≡ compareSteps a b)
+    is-below l = step-below a b i (i / 8) here 8 next-eight ha hb (by-swapped ∙ numbers-below (swapped 8 (number a i 8)) (swapped 8 (number b i 8)) .1 l)
+
+    is-above : swapped 8 (number b i 8) < swapped 8 (number a i 8) → (Above ≡ compareTexts a b) × (i / 8 + 1 ≡ compareSteps a b)
+    is-above g = step-above a b i (i / 8) here 8 next-eight ha hb (by-swapped ∙ numbers-above (swapped 8 (number a i 8)) (swapped 8 (number b i 8)) .1 g)
+
+    module _ (x y p q : ℕ) (ex : x ≡ number (take (length a - i) (drop i a)) 0 8) (ey : y ≡ number (take (length b - i) (drop i b)) 0 8) (ep : p ≡ swapped 8 x) (eq : q ≡ swapped 8 y) where
+      first : p ≡ swapped 8 (number a i 8)
+      first = ep ∙ ap (swapped 8) (ex ∙ number-part a i 8)
+
+      second : q ≡ swapped 8 (number b i 8)
+      second = eq ∙ ap (swapped 8) (ey ∙ number-part b i 8)
+
+      pub differ-below : p < q → Below ≡ compareTexts a b
+      differ-below l = is-below (rw (first, second) at l) .0
+
+      pub differ-above : q ≤ p → Above ≡ compareTexts a b
+      differ-above g = is-above (let h = rw (first, second) at g in omega (arith, unlike)) .0
+
+    differ-counts : i / 8 + 1 ≡ compareSteps a b
+    differ-counts =
+        by-numbers (λ _. i / 8 + 1 ≡ compareSteps a b) (swapped 8 (number a i 8)) (swapped 8 (number b i 8)) Equal (λ l. is-below l .1) (λ e. absurd (unlike e)) (λ g. is-above g .1)
+
+module _ (a b : List ℕ) (i n : ℕ) (en : n ≡ min (length a) (length b)) (ga : (k : ℕ) → Fits w8 (getD a k 0)) (gb : (k : ℕ) → Fits w8 (getD b k 0)) where
+  pub differ-counted : i ≤ min (length a) (length b) → 8 ≤ n - i → Passed a b i → i / 8 + 1 ≡ compareSteps a b
+  differ-counted l h p = differ-counts a b i ga gb (omega arith) (omega arith) p
+
+  module _ (stop : ℕ) (es : stop ≡ n - n % 8) (whole : i % 8 ≡ 0) (r : Bool) (e : r ≡ eqb (number a i 8) (number b i 8)) (l : i < stop) (h : ComparesFrom a b i (i / 8)) where
+    pub passes-on : r ≡ true → ComparesFrom a b (i + 8) ((i + 8) / 8)
+    passes-on t = eight-passed a b i ga gb (omega arith) (omega arith) (eqb-true (number a i 8) (number b i 8) (sym e ∙ t)) h
+
+    pub passed-differing : r ≡ false → Passed a b i
+    unfolding Passed
+    passed-differing f = (λ _. eqb-false (number a i 8) (number b i 8) (sym e ∙ f), h)
+
+pub passed-all : (a b : List ℕ) (i n stop : ℕ) → n ≡ min (length a) (length b) → stop ≡ n - n % 8 → i ≤ stop → stop ≤ i → ComparesFrom a b i (i / 8) → Passed a b i
+unfolding Passed
+passed-all a b i n stop en es l g h = (λ k. absurd (omega arith), h)
+
+pub passed-rest : (a b : List ℕ) (i : ℕ) → Passed a b i → ComparesFrom a b i (i / 8)
+unfolding Passed
+passed-rest a b i p = p .1
+
+pub ruleset eights-laws = (eight-read, passed-first, passes-on, passed-differing, passed-all, passed-rest, differ-below, differ-above, differ-counted, needs)
+
+-- ---- one byte
 
 module _ (a b : List ℕ) (i s : ℕ) (here : ComparesFrom a b i s) where
-  module _ (left : ℕ) (some : 0 < left) (whole : i + 8 * left ≤ min (length a) (length b)) where
-    next-eight : compareSteps (drop i a) (drop i b) ≡ step 8 compareSteps (drop i a) (drop i b)
-    next-eight =
-        let la = length-drop i a in
-        let lb = length-drop i b in
-        steps-eight (drop i a) (drop i b) (omega arith)
-
-    module _ (o : Order) (e : o ≡ compareTexts (part a i 8) (part b i 8)) where
-      pub eights-below : o ≡ Below → Below ≡ compareTexts a b
-      eights-below q = step-below a b i s here 8 next-eight (omega arith) (omega arith) (sym e ∙ q) .0
-
-      pub below-counted : o ≡ Below → s + 1 ≡ compareSteps a b
-      below-counted q = step-below a b i s here 8 next-eight (omega arith) (omega arith) (sym e ∙ q) .1
-
-      pub eights-above : o ≡ Above → Above ≡ compareTexts a b
-      eights-above q = step-above a b i s here 8 next-eight (omega arith) (omega arith) (sym e ∙ q) .0
-
-      pub above-counted : o ≡ Above → s + 1 ≡ compareSteps a b
-      above-counted q = step-above a b i s here 8 next-eight (omega arith) (omega arith) (sym e ∙ q) .1
-
-      pub eights-equal : o ≡ Equal → ComparesFrom a b (i + 8) (s + 1)
-      eights-equal q = step-equal a b i s here 8 next-eight (omega arith) (omega arith) (sym e ∙ q)
-
   module _ (n : ℕ) (en : n ≡ min (length a) (length b)) where
     module _ (few : n < i + 8) (before : i < n) where
       next-one : compareSteps (drop i a) (drop i b) ≡ step 1 compareSteps (drop i a) (drop i b)
@@ -181,8 +214,6 @@ module _ (a b : List ℕ) (i s : ℕ) (here : ComparesFrom a b i s) where
       pub both-end : length b ≤ length a → length a ≤ length b → Equal ≡ compareTexts a b
       unfolding compareTexts ComparesFrom
       both-end g l = rw (drop-of-length-le a {i = i} (omega arith), drop-of-length-le b {i = i} (omega arith)) at (here .0)
-
-pub ruleset eights-laws = (compares-first, eights-below, below-counted, eights-above, above-counted, eights-equal, needs)
 
 pub ruleset bytes-laws = (byte-below, byte-below-counted, byte-above, byte-above-counted, byte-equal, first-ends, second-ends, both-end, end-counted, needs)
 

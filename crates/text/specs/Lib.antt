@@ -1,4 +1,4 @@
-pub mod ComparesFrom
+pub mod Comparing
 pub mod Hash
 pub mod Steps
 pub mod Swapped

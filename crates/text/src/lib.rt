@@ -5,11 +5,12 @@ mod swap;
 use json::Order;
 ghost use mathlib.Core.Path.{_≡_};
 ghost use Prim.Native.Nat.{_+_, _≤_, _<_, min};
+ghost use lib.Dec.{eqb};
 ghost use lib.ListN.{length};
-ghost use Rattle.json.specs.Bytes.{part};
+ghost use Rattle.json.specs.Bytes.{number};
 ghost use Rattle.json.specs.Texts.{compareTexts, isEqual};
 ghost use Rattle.text.specs.Steps.{compareSteps};
-ghost use Rattle.text.specs.ComparesFrom.{ComparesFrom};
+ghost use Rattle.text.specs.Comparing.{ComparesFrom, Passed};
 
 // The order of two texts, and in how many steps it was found.
 pub struct Comparison {
@@ -26,16 +27,40 @@ fn shorter(a: &[u8], b: &[u8]) -> usize
     b.len()
 }
 
-// One step: the order of the eight bytes at a place. Where they differ, the first that does is the highest of their numbers' swapped bytes.
-fn compare_eight(a: &[u8], b: &[u8], i: usize) -> Order
+// Whether the eight bytes at a place are the same in both texts.
+fn same_eight(a: &[u8], b: &[u8], i: usize) -> bool
     requires { ⌜ (i + 8 ≤ length (now a)) × (i + 8 ≤ length (now b)) ⌝ }
-    ensures { λ r. ⌜ r ≡ compareTexts (part (now (a .entry)) i 8) (part (now (b .entry)) i 8) ⌝ }
+    ensures { λ r. ⌜ r ≡ eqb (number (now (a .entry)) i 8) (number (now (b .entry)) i 8) ⌝ }
 {
     let x = word::eight(&a[i..]);
     let y = word::eight(&b[i..]);
-    if x == y {
-        return Order::Equal;
+    x == y
+}
+
+// Passes the steps of eight bytes that do not differ: up to one that does, or to where fewer than eight bytes are left in one text.
+fn pass_equal(a: &[u8], b: &[u8]) -> usize
+    ensures { λ r. ⌜ (r ≤ min (length (now (a .entry))) (length (now (b .entry)))) × Passed (now (a .entry)) (now (b .entry)) r ⌝ }
+{
+    let n = shorter(a, b);
+    let stop = n - n % 8;
+    let mut i = 0;
+    while i < stop {
+        if same_eight(a, b, i) {
+            i += 8;
+        } else {
+            return i;
+        }
     }
+    i
+}
+
+// The order of two texts whose eight bytes at a place differ: as numbers these are little endian, so their bytes are swapped.
+fn differ(a: &[u8], b: &[u8], i: usize) -> Order
+    requires { ⌜ (i + 8 ≤ length (now a)) × (i + 8 ≤ length (now b)) × Passed (now a) (now b) i ⌝ }
+    ensures { λ r. ⌜ r ≡ compareTexts (now (a .entry)) (now (b .entry)) ⌝ }
+{
+    let x = word::eight(&a[i..]);
+    let y = word::eight(&b[i..]);
     if swap::eight(x) < swap::eight(y) {
         return Order::Below;
     }
@@ -93,30 +118,14 @@ fn compare_rest(a: &[u8], b: &[u8], at: usize, before: usize) -> Comparison
 pub fn compare(a: &[u8], b: &[u8]) -> Comparison
     ensures { λ r. ⌜ (r .order ≡ compareTexts (now (a .entry)) (now (b .entry))) × (r .steps ≡ compareSteps (now (a .entry)) (now (b .entry))) ⌝ }
 {
-    let mut left = shorter(a, b) / 8;
-    let mut i = 0;
-    let mut steps = 0;
-    while 0 < left {
-        steps += 1;
-        let o = compare_eight(a, b, i);
-        match o {
-            Order::Below => {
-                return Comparison {
-                    order: Order::Below,
-                    steps,
-                };
-            }
-            Order::Above => {
-                return Comparison {
-                    order: Order::Above,
-                    steps,
-                };
-            }
-            Order::Equal => {
-                i += 8;
-                left -= 1;
-            }
-        }
+    let i = pass_equal(a, b);
+    let steps = i / 8;
+    if 8 <= shorter(a, b) - i {
+        let order = differ(a, b, i);
+        return Comparison {
+            order,
+            steps: steps + 1,
+        };
     }
     compare_rest(a, b, i, steps)
 }

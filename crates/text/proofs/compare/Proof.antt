@@ -1,84 +1,46 @@
-use Prim.Native.Nat.{_+_, _*_, _≤_, _<_, min}
-use lib.ListN.{length}
-use Rattle.text.specs.ComparesFrom.{ComparesFrom}
 use Rattle.text.proofs.Laws.{eights-laws}
 use Rattle.text.proofs.compare.Statement.{statement}
 use Rattle.text.proofs.compare.Tie as tie
 use Rattle.text.proofs.compare.Reads as reads
 use Rattle.text.proofs.compare.Lts as lts
-use Rattle.text.proofs.compare_eight.Reads as compare-eight-reads
 use Rattle.text.proofs.compare_rest.Reads as compare-rest-reads
+use Rattle.text.proofs.differ.Reads as differ-reads
+use Rattle.text.proofs.pass_equal.Reads as pass-equal-reads
 use Rattle.text.proofs.shorter.Reads as shorter-reads
 
-abbrev Inv-loop : tie.InvT-loop
-Inv-loop a b left₀ i₀ steps₀ left i steps = (i + 8 * left ≤ min (length a) (length b)) × (min (length a) (length b) < i + 8 * left + 8) × (steps ≤ i) × ComparesFrom a b i steps
+pass-equal-requires : tie.Need-pass-equal-requires
+pass-equal-requires c κs = search eights-laws
 
-abbrev μ-loop : tie.MeasureT-loop
-μ-loop a b left₀ i₀ steps₀ left i steps = left
-
-shorter-requires : tie.Need-shorter-requires Inv-loop μ-loop
+shorter-requires : tie.Need-shorter-requires
 shorter-requires c κs = search eights-laws
 
-loop-holds : tie.Need-loop-holds Inv-loop μ-loop
-loop-holds c = search eights-laws
+sub-if1 : tie.Need-sub-if1
+sub-if1 c = search eights-laws
 
-add-steps : tie.Need-add-steps Inv-loop μ-loop
-add-steps c = search eights-laws
+differ-requires : tie.Need-differ-requires
+differ-requires c κs = search eights-laws
 
-compare-eight-requires : tie.Need-compare-eight-requires Inv-loop μ-loop
-compare-eight-requires c κs = search eights-laws
+add-t9 : tie.Need-add-t9
+add-t9 c = search eights-laws
 
-enum-told : tie.Need-enum-told Inv-loop μ-loop
-enum-told c = search eights-laws
-
-returns : tie.Need-returns Inv-loop μ-loop
+returns : tie.Need-returns
 returns c = search eights-laws
 
-enum-told-2 : tie.Need-enum-told-2 Inv-loop μ-loop
-enum-told-2 c = search eights-laws
-
-returns-2 : tie.Need-returns-2 Inv-loop μ-loop
-returns-2 c = search eights-laws
-
-enum-told-3 : tie.Need-enum-told-3 Inv-loop μ-loop
-enum-told-3 c = search eights-laws
-
-add-i : tie.Need-add-i Inv-loop μ-loop
-add-i c = search eights-laws
-
-sub-left : tie.Need-sub-left Inv-loop μ-loop
-sub-left c = search eights-laws
-
-loop-less : tie.Need-loop-less Inv-loop μ-loop
-loop-less c = search eights-laws
-
-loop-again : tie.Need-loop-again Inv-loop μ-loop
-loop-again c = search eights-laws
-
-compare-rest-requires : tie.Need-compare-rest-requires Inv-loop μ-loop
+compare-rest-requires : tie.Need-compare-rest-requires
 compare-rest-requires c κs = search eights-laws
 
-returns-3 : tie.Need-returns-3 Inv-loop μ-loop
-returns-3 c = search eights-laws
+returns-2 : tie.Need-returns-2
+returns-2 c = search eights-laws
 
 pub compare-spec : {M : Type 1} → statement M
 compare-spec =
     tie.close
     (tie.spec
-    Inv-loop
-    μ-loop
+    pass-equal-requires
     shorter-requires
-    loop-holds
-    add-steps
-    compare-eight-requires
-    enum-told
+    sub-if1
+    differ-requires
+    add-t9
     returns
-    enum-told-2
-    returns-2
-    enum-told-3
-    add-i
-    sub-left
-    loop-less
-    loop-again
     compare-rest-requires
-    returns-3)
+    returns-2)

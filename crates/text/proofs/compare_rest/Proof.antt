@@ -1,5 +1,5 @@
 use Prim.Native.Nat.{_+_, _-_, _≤_, _<_}
-use Rattle.text.specs.ComparesFrom.{ComparesFrom}
+use Rattle.text.specs.Comparing.{ComparesFrom}
 use Rattle.text.proofs.Laws.{bytes-laws}
 use Rattle.text.proofs.compare_rest.Statement.{statement}
 use Rattle.text.proofs.compare_rest.Tie as tie
