@@ -80,10 +80,11 @@ fn text_start(doc: &[u8], a: Areas, v: usize) -> usize
 }
 
 // The text of the slot at an offset, which is good to read if it lies after the slots and before the numbers.
-fn read_text(doc: &[u8], a: Areas, v: usize) -> Texted
-    requires { ⌜ Laid (now doc) a × SlotNamed (now doc) v true ⌝ }
-    ensures { λ r. ⌜ TextRead (now (doc .entry)) v r ⌝ }
+pub fn read_text(doc: &[u8], a: Areas, slot: SlotOffset) -> Texted
+    requires { ⌜ Laid (now doc) a × SlotNamed (now doc) (slot .0) true ⌝ }
+    ensures { λ r. ⌜ TextRead (now (doc .entry)) (slot .0) r ⌝ }
 {
+    let v = slot.0;
     let start = text_start(doc, a, v);
     let f = crate::areas::fields_at(doc, v);
     let end = f.high;
@@ -110,7 +111,7 @@ pub fn text_named(doc: &[u8], a: Areas, slot: SlotOffset) -> Texted
     let v = slot.0;
     let good = slot_named(doc, a, SlotOffset(v));
     if good {
-        return read_text(doc, a, v);
+        return read_text(doc, a, SlotOffset(v));
     }
     Texted::Bad
 }

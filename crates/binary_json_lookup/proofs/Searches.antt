@@ -20,15 +20,16 @@ use Rattle.json.proofs.Reading.{then, stops}
 use Rattle.json.proofs.Texts.{numbers-below, numbers-equal, numbers-above}
 use Rattle.binary_json_rules.specs.Areas.{word, count, slot}
 use Rattle.binary_json_rules.specs.Meaning.{SlotIs}
+use Rattle.binary_json_rules.specs.TreeOf.{slotAt}
 use Rattle.binary_json_rules.specs.Questions.{slotRead, textNamed, entryOf}
 use Rattle.binary_json_rules.specs.Halving.{Item, compares, unreadable, Halved, found, missed, broken, middle, turn, halveIf, halveFrom, halve}
 use Rattle.binary_json_rules.specs.Lookup.{entry, absent, stringItem, strings, keyItem, keys, afterKeys, afterStrings, quickLookup, Lookup, lookup, lookupOf, scanFrom, plainScan}
 use Rattle.binary_json_rules.proofs.Complete.{slot-named}
 use Rattle.binary_json_rules.proofs.Trees.{slot-at}
 use Rattle.binary_json_areas.specs.Laid.{Laid}
-use Rattle.binary_json_areas.specs.Naming.{TextNamed}
+use Rattle.binary_json_areas.specs.Naming.{SlotNamed, TextRead, TextNamed}
 use Rattle.binary_json_metas.specs.Objects.{ObjectAt, ObjectRead}
-use Rattle.binary_json_lookup.specs.Lookups.{TextCompared, Matches, TextMatched, toldItem, stringItems, toldHalving, Within}
+use Rattle.binary_json_lookup.specs.Lookups.{Matches, TextMatched, toldItem, stringItems, toldHalving, Within}
 use Rattle.binary_json_areas.specs.declared.areas.Areas.{Areas}
 use Rattle.binary_json_lookup.specs.declared.lookup.Compared.{Compared}
 use Rattle.binary_json_lookup.specs.declared.lookup.Halving.{Halving}
@@ -41,16 +42,8 @@ use Rattle.binary_json_metas.proofs.Metas.{object-of}
 -- ---- a text against a key
 
 module _ (doc : List ℕ) (v : ℕ) (x : List ℕ) (t : Texted) (h : TextNamed doc v t) where
-  pub text-bad : t ≡ Texted.Bad → TextCompared doc v x Compared.Bad
-  text-bad e = rw e at h
-
   pub bytes-inside : (p l : ℕ) → t ≡ Texted.At p l → p + l ≤ length doc
   bytes-inside p l e = let z : TextNamed doc v (Texted.At p l) = rw e at h in z .0
-
-  pub text-compared : (p l : ℕ) (b : List ℕ) (o : Order) → t ≡ Texted.At p l → b ≡ part doc p l → o ≡ compareTexts b x → TextCompared doc v x (Compared.Of o)
-  text-compared p l b o e q r =
-      let z : TextNamed doc v (Texted.At p l) = rw e at h in
-      (record { place = p; len = l }, z .1, r ∙ ap (λ y. compareTexts y x) q)
 
   pub match-bad : t ≡ Texted.Bad → TextMatched doc v x Matched.Bad
   match-bad e = rw e at h
@@ -70,27 +63,36 @@ module _ (doc : List ℕ) (v : ℕ) (x : List ℕ) (t : Texted) (h : TextNamed d
 pub bytes-are : (doc : List ℕ) (p l : ℕ) → take (p + l - p) (drop p doc) ≡ part doc p l
 bytes-are doc p l = let q : p + l - p ≡ l = omega arith in rw q
 
-pub ruleset text-laws = (bytes-are, text-bad, bytes-inside, text-compared, match-bad, match-same, match-other, needs)
+pub ruleset text-laws = (bytes-are, bytes-inside, match-bad, match-same, match-other, needs)
 
 -- string k, whose slot stands at S+4+4k
-slot-of : (doc : List ℕ) (a : Areas) (k c : ℕ) → Laid doc a → k < a .count → ask (textNamed doc (a .index + 4 + 4 * k) c) ≡ ask (slotRead doc k c)
-unfolding textNamed
-slot-of doc a k c x b =
-    let e = slot-is doc (a .index) (a .count) k (x .framed) in
-    let n = x .framed .count-is in
-    let b′ : k < count doc = omega arith in
-    let is : SlotIs doc (a .index + 4 + 4 * k) k = record { counted = b′; place = e } in
-    then _ _ tt (slot-named doc tt (a .index + 4 + 4 * k) 20 c k is) ∙ rw (slot-at doc (a .index + 4 + 4 * k) k is)
+module _ (doc : List ℕ) (a : Areas) (k : ℕ) (l : Laid doc a) (below : k < a .count) where
+  at-slot : SlotIs doc (a .index + 4 + 4 * k) k
+  at-slot =
+      let n = l .framed .count-is in
+      record { counted = (let b = below in omega arith); place = slot-is doc (a .index) (a .count) k (l .framed) }
 
-compared-item : (doc : List ℕ) (v k : ℕ) (x : List ℕ) (r : Compared) → TextCompared doc v x r → ((c : ℕ) → ask (textNamed doc v c) ≡ ask (slotRead doc k c)) → toldItem r ≡ stringItems doc x k
-unfolding stringItems
-compared-item doc v k x Compared.Bad h e = ap (stringItem doc x) (sym (h 0) ∙ e 0)
-compared-item doc v k x (Compared.Of o) h e = ap compares (h .2) ∙ ap (stringItem doc x) (sym (h .1 0) ∙ e 0)
+  pub string-slot : SlotNamed doc (a .index + 4 + 4 * k) true
+  string-slot n p = slot-named doc tt (a .index + 4 + 4 * k) n p k at-slot
 
-pub string-compared : (doc : List ℕ) (a : Areas) (k : ℕ) (x : List ℕ) (r : Compared) → Laid doc a → k < a .count → TextCompared doc (a .index + 4 + 4 * k) x r → toldItem r ≡ stringItems doc x k
-string-compared doc a k x r l b h = compared-item doc (a .index + 4 + 4 * k) k x r h (λ c. slot-of doc a k c l b)
+  slot-k : (c : ℕ) → ask (slotRead doc (slotAt doc (a .index + 4 + 4 * k)) c) ≡ ask (slotRead doc k c)
+  slot-k c = rw (slot-at doc (a .index + 4 + 4 * k) k at-slot)
 
-pub ruleset string-laws = (string-compared, needs)
+  module _ (x : List ℕ) (t : Texted) (h : TextRead doc (a .index + 4 + 4 * k) t) where
+    pub item-bad : t ≡ Texted.Bad → toldItem Compared.Bad ≡ stringItems doc x k
+    unfolding stringItems
+    item-bad e = let z : TextRead doc (a .index + 4 + 4 * k) Texted.Bad = rw e at h in ap (stringItem doc x) (sym (z 0) ∙ slot-k 0)
+
+    pub string-inside : (p m : ℕ) → t ≡ Texted.At p m → p + m ≤ length doc
+    string-inside p m e = let z : TextRead doc (a .index + 4 + 4 * k) (Texted.At p m) = rw e at h in z .0
+
+    pub string-compared : (p m : ℕ) (b : List ℕ) (o : Order) → t ≡ Texted.At p m → b ≡ part doc p m → o ≡ compareTexts b x → toldItem (Compared.Of o) ≡ stringItems doc x k
+    unfolding stringItems
+    string-compared p m b o e q r =
+        let z : TextRead doc (a .index + 4 + 4 * k) (Texted.At p m) = rw e at h in
+        ap compares (r ∙ ap (λ y. compareTexts y x) q) ∙ ap (stringItem doc x) (sym (z .1 0) ∙ slot-k 0)
+
+pub ruleset string-laws = (string-slot, item-bad, string-inside, string-compared, needs)
 
 -- ---- halving
 

@@ -14,11 +14,6 @@ use Rattle.binary_json_lookup.specs.declared.lookup.Compared.{Compared}
 use Rattle.binary_json_lookup.specs.declared.lookup.Halving.{Halving}
 use Rattle.binary_json_lookup.specs.declared.lookup.Matched.{Matched}
 
--- the text that the offset v names, against the key x
-abbrev pub TextCompared : List ℕ → ℕ → List ℕ → Compared → Type 0
-TextCompared doc v x Compared.Bad = (c : ℕ) → ask (textNamed doc v c) ≡ refuses 20 c
-TextCompared doc v x (Compared.Of o) = (s : Span) × ((c : ℕ) → ask (textNamed doc v c) ≡ answers s) × (o ≡ compareTexts (part doc (s .place) (s .len)) x)
-
 -- the text that the offset v names is the key x, or it is another
 abbrev pub Matches : List ℕ → ℕ → List ℕ → Bool → Type 0
 Matches doc v x b = (s : Span) × ((c : ℕ) → ask (textNamed doc v c) ≡ answers s) × (b ≡ isEqual (compareTexts (part doc (s .place) (s .len)) x))

@@ -17,7 +17,7 @@ ghost use Rattle.binary_json_rules.specs.Areas.{slot};
 ghost use Rattle.binary_json_rules.specs.Lookup.{strings, keys, afterKeys, quickLookup, lookupOf, plainScan};
 ghost use Rattle.binary_json_areas.specs.Laid.{Laid};
 ghost use Rattle.binary_json_metas.specs.Objects.{ObjectAt};
-ghost use Rattle.binary_json_lookup.specs.Lookups.{TextCompared, TextMatched, toldItem, toldHalving, Within, stringItems};
+ghost use Rattle.binary_json_lookup.specs.Lookups.{TextMatched, toldItem, toldHalving, Within, stringItems};
 ghost use Rattle.binary_json_answers.specs.Told.{toldScan, toldLookup};
 
 // How an item compares with what is sought, or that it cannot be read.
@@ -34,21 +34,6 @@ fn bytes(doc: &[u8], place: usize, len: usize) -> &[u8]
     &doc[place..place + len]
 }
 
-// The text that an offset names, against a key.
-fn compare_text(doc: &[u8], a: Areas, at: SlotOffset, key: &[u8]) -> Compared
-    requires { ⌜ Laid (now doc) a ⌝ }
-    ensures { λ r. ⌜ TextCompared (now (doc .entry)) (at .0) (now (key .entry)) r ⌝ }
-{
-    let t = binary_json_areas::named::text_named(doc, a, at);
-    match t {
-        Texted::Bad => Compared::Bad,
-        Texted::At { place, len } => {
-            let o = text::order(bytes(doc, place, len), key);
-            Compared::Of(o)
-        }
-    }
-}
-
 // Where a halving ended, and its number of comparisons.
 pub enum Halving {
     Found { at: usize, turns: usize },
@@ -61,7 +46,14 @@ fn compare_string(doc: &[u8], a: Areas, k: usize, key: &[u8]) -> Compared
     requires { ⌜ Laid (now doc) a × (k < a .count) ⌝ }
     ensures { λ r. ⌜ toldItem r ≡ stringItems (now (doc .entry)) (now (key .entry)) k ⌝ }
 {
-    compare_text(doc, a, SlotOffset(a.index + 4 + 4 * k), key)
+    let t = binary_json_areas::named::read_text(doc, a, SlotOffset(a.index + 4 + 4 * k));
+    match t {
+        Texted::Bad => Compared::Bad,
+        Texted::At { place, len } => {
+            let o = text::order(bytes(doc, place, len), key);
+            Compared::Of(o)
+        }
+    }
 }
 
 // Halves the strings for a key.

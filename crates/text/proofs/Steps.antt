@@ -81,3 +81,69 @@ module _ (a b : List ℕ) where
   pub steps-none : min (length a) (length b) < 1 → compareSteps a b ≡ 0
   unfolding compareSteps
   steps-none h = none-within (length a) a b h
+
+-- ---- how many there are
+
+-- a comparing by what its next step is
+by-next : (P : ℕ → Type 0) (a b : List ℕ) → (8 ≤ min (length a) (length b) → P (step 8 compareSteps a b))
+    → (min (length a) (length b) < 8 → 1 ≤ min (length a) (length b) → P (step 1 compareSteps a b)) → (min (length a) (length b) < 1 → P 0) → P (compareSteps a b)
+by-next P a b eight one none = go (leb 8 m) (leb 1 m) refl refl
+  where
+    m : ℕ
+    m = min (length a) (length b)
+
+    go : (s t : Bool) → leb 8 m ≡ s → leb 1 m ≡ t → P (compareSteps a b)
+    go true t e f = rw (steps-eight a b (leb-true 8 m e)) (eight (leb-true 8 m e))
+    go false true e f = rw (steps-one a b (leb-false 8 m e) (leb-true 1 m f)) (one (leb-false 8 m e) (leb-true 1 m f))
+    go false false e f = rw (steps-none a b (leb-false 1 m f)) (none (leb-false 1 m f))
+
+-- a step and the rest at most
+step-most : (n : ℕ) (a b : List ℕ) → step n compareSteps a b ≤ suc (compareSteps (drop n a) (drop n b))
+unfolding step choose
+step-most n a b = go (alike n a b)
+  where
+    go : (t : Bool) → suc (choose t (compareSteps (drop n a) (drop n b)) 0) ≤ suc (compareSteps (drop n a) (drop n b))
+    go true = omega arith
+    go false = omega arith
+
+most-within : (k : ℕ) (a b : List ℕ) → length a ≤ k → compareSteps a b ≤ min (length a) (length b) / 8 + min (length a) (length b) % 8
+most-within zero a b h = rw (steps-none a b (omega arith)) (omega arith)
+most-within (suc k) a b h =
+    by-next (λ s. s ≤ min (length a) (length b) / 8 + min (length a) (length b) % 8) a b
+    (λ e. let r = most-within k (drop 8 a) (drop 8 b) (rw (length-drop 8 a) (omega arith)) in
+    let la = length-drop 8 a in
+    let lb = length-drop 8 b in
+    let s = step-most 8 a b in
+    omega arith)
+    (λ f e. let r = most-within k (drop 1 a) (drop 1 b) (rw (length-drop 1 a) (omega arith)) in
+    let la = length-drop 1 a in
+    let lb = length-drop 1 b in
+    let s = step-most 1 a b in
+    omega arith)
+    (λ e. omega arith)
+
+-- one for each eight bytes of the shorter text and one for each byte left over, at most
+pub steps-at-most : (a b : List ℕ) → compareSteps a b ≤ min (length a) (length b) / 8 + min (length a) (length b) % 8
+steps-at-most a b = most-within (length a) a b (omega arith)
+
+step-same : (n : ℕ) (a : List ℕ) → step n compareSteps a a ≡ suc (compareSteps (drop n a) (drop n a))
+unfolding step alike choose
+step-same n a = rw (texts-equal (take n a) (take n a) .1 refl)
+
+same-within : (k : ℕ) (a : List ℕ) → length a ≤ k → compareSteps a a ≡ length a / 8 + length a % 8
+same-within zero a h = rw (steps-none a a (omega arith)) (omega arith)
+same-within (suc k) a h =
+    by-next (λ s. s ≡ length a / 8 + length a % 8) a a
+    (λ e. let l = length-drop 8 a in
+    let r = same-within k (drop 8 a) (omega arith) in
+    let s = step-same 8 a in
+    omega arith)
+    (λ f e. let l = length-drop 1 a in
+    let r = same-within k (drop 1 a) (omega arith) in
+    let s = step-same 1 a in
+    omega arith)
+    (λ e. omega arith)
+
+-- and just so many of a text with itself
+pub steps-of-same : (a : List ℕ) → compareSteps a a ≡ length a / 8 + length a % 8
+steps-of-same a = same-within (length a) a (omega arith)

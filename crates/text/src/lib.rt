@@ -61,7 +61,9 @@ fn differ(a: &[u8], b: &[u8], i: usize) -> Order
 {
     let x = word::eight(&a[i..]);
     let y = word::eight(&b[i..]);
-    if swap::eight(x) < swap::eight(y) {
+    let p = swap::eight(x);
+    let q = swap::eight(y);
+    if p < q {
         return Order::Below;
     }
     Order::Above

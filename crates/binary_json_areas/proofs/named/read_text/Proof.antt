@@ -27,11 +27,11 @@ returns-2 c = search text-laws
 returns-3 : tie.Need-returns-3
 returns-3 c = search text-laws
 
-sub-t7 : tie.Need-sub-t7
-sub-t7 c = search needs
-
 sub-t8 : tie.Need-sub-t8
 sub-t8 c = search needs
+
+sub-t9 : tie.Need-sub-t9
+sub-t9 c = search needs
 
 returns-4 : tie.Need-returns-4
 returns-4 c = search text-laws
@@ -48,6 +48,6 @@ read-text-spec =
     returns
     returns-2
     returns-3
-    sub-t7
     sub-t8
+    sub-t9
     returns-4)

@@ -1,22 +1,48 @@
 use Rattle.binary_json_lookup.proofs.Searches.{string-laws}
-use borrow.Author.Needs.{needs}
 use Rattle.binary_json_lookup.proofs.lookup.compare_string.Statement.{statement}
 use Rattle.binary_json_lookup.proofs.lookup.compare_string.Tie as tie
 
-add-t5 : tie.Need-add-t5
-add-t5 c = search needs
+add-t9 : tie.Need-add-t9
+add-t9 c = search string-laws
 
-mul-t6 : tie.Need-mul-t6
-mul-t6 c = search needs
+mul-t10 : tie.Need-mul-t10
+mul-t10 c = search string-laws
 
-add-t7 : tie.Need-add-t7
-add-t7 c = search needs
+add-t11 : tie.Need-add-t11
+add-t11 c = search string-laws
 
-compare-text-requires : tie.Need-compare-text-requires
-compare-text-requires c κs = search needs
+read-text-requires : tie.Need-read-text-requires
+read-text-requires c κs = search string-laws
+
+enum-told : tie.Need-enum-told
+enum-told c = search string-laws
+
+enum-known-t : tie.Need-enum-known-t
+enum-known-t c = search string-laws
+
+bytes-requires : tie.Need-bytes-requires
+bytes-requires c κs = search string-laws
+
+order-requires : tie.Need-order-requires
+order-requires c κs = search string-laws
 
 returns : tie.Need-returns
 returns c = search string-laws
 
+returns-2 : tie.Need-returns-2
+returns-2 c = search string-laws
+
 pub compare-string-spec : {M : Type 1} → statement M
-compare-string-spec = tie.close (tie.spec add-t5 mul-t6 add-t7 compare-text-requires returns)
+compare-string-spec =
+    tie.close
+    (tie.spec
+    add-t9
+    mul-t10
+    add-t11
+    read-text-requires
+    enum-told
+    enum-known-t
+    bytes-requires
+    order-requires
+    returns
+    returns-2)
