@@ -32,9 +32,7 @@ fn same_eight(a: &[u8], b: &[u8], i: usize) -> bool
     requires { ⌜ (i + 8 ≤ length (now a)) × (i + 8 ≤ length (now b)) ⌝ }
     ensures { λ r. ⌜ r ≡ eqb (number (now (a .entry)) i 8) (number (now (b .entry)) i 8) ⌝ }
 {
-    let x = word::eight(&a[i..]);
-    let y = word::eight(&b[i..]);
-    x == y
+    word::eight(&a[i..]) == word::eight(&b[i..])
 }
 
 // Passes the steps of eight bytes that do not differ: up to one that does, or to where fewer than eight bytes are left in one text.

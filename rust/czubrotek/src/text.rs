@@ -7,7 +7,7 @@ use std::cmp::Ordering;
 
 /// The order of two texts, and how many steps told it.
 #[derive(Debug, Clone, Copy, PartialEq, Eq, Hash)]
-pub struct Compared {
+pub struct Comparison {
     /// The order of the first text against the second, which is that of the slices.
     pub order: Ordering,
     /// The number of steps, through the first that differs.
@@ -18,16 +18,16 @@ pub struct Compared {
 /// one while both have one, through the first step that differs. The strings of a BinaryJson document ascend in this order.
 ///
 /// ```
-/// use czubrotek::text::{Compared, compare};
+/// use czubrotek::text::{Comparison, compare};
 /// use std::cmp::Ordering;
 ///
 /// // eight bytes, and then one
 /// let compared = compare(b"sensor/07/air", b"sensor/08/air");
-/// assert_eq!(compared, Compared { order: Ordering::Less, steps: 2 });
+/// assert_eq!(compared, Comparison { order: Ordering::Less, steps: 2 });
 /// // two bytes, one at a step
-/// assert_eq!(compare(b"air", b"ai"), Compared { order: Ordering::Greater, steps: 2 });
+/// assert_eq!(compare(b"air", b"ai"), Comparison { order: Ordering::Greater, steps: 2 });
 /// ```
-pub fn compare(a: &[u8], b: &[u8]) -> Compared {
+pub fn compare(a: &[u8], b: &[u8]) -> Comparison {
     let mut out = [0; 2];
     // returns 0: the library's contract leaves no refusal
     sys::text_compare(a, b, &mut out);
@@ -38,5 +38,5 @@ pub fn compare(a: &[u8], b: &[u8]) -> Compared {
         // 2: the library's contract leaves no other
         _ => Ordering::Greater,
     };
-    Compared { order, steps }
+    Comparison { order, steps }
 }

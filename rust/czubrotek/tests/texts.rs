@@ -3,14 +3,14 @@
 mod common;
 
 use common::hex;
-use czubrotek::text::{Compared, compare};
+use czubrotek::text::{Comparison, compare};
 use std::cmp::Ordering::{self, Equal, Greater, Less};
 
 /// Compares both ways round: the order is turned, the steps are the same.
 fn expect(a: &[u8], b: &[u8], order: Ordering, steps: u64) {
-    assert_eq!(compare(a, b), Compared { order, steps });
+    assert_eq!(compare(a, b), Comparison { order, steps });
     let order = order.reverse();
-    assert_eq!(compare(b, a), Compared { order, steps });
+    assert_eq!(compare(b, a), Comparison { order, steps });
 }
 
 #[test]
