@@ -129,8 +129,8 @@ pub fn shapes() -> Vec<Shape> {
         shape("object of 4", object(4, 2, 0)),
         shape("object of 64", object(64, 2, 0)),
         shape("object of 4,096", object(4096, 2, 0)),
-        shape("object of 64, long prefix", object(64, 2, 24)),
-        shape("object of 1,600, long prefix", object(1600, 2, 24)),
+        shape("object of 64, prefix of 24", object(64, 2, 24)),
+        shape("object of 1,600, prefix of 24", object(1600, 2, 24)),
         shape("array of numbers", numbers(4000)),
         shape("30 levels", Tree::Array(deep)),
     ]
