@@ -1,6 +1,5 @@
 -- Examples that hold the steps to what document 02 says of them, computed from the definition.
-use Prim.Native.Nat.{ℕ}
-use mathlib.Core.List.{List, []}
+use mathlib.Core.List.{[]}
 use mathlib.Core.Path.{_≡_, refl}
 use Rattle.json.specs.Bytes.{hex}
 use Rattle.json.specs.Choose.{choose}

@@ -2,7 +2,7 @@
 use mathlib.Core.Path.{_≡_, refl, sym, ap, _∙_}
 use mathlib.Core.Bool.{Bool, true, false}
 use mathlib.Core.List.{List, [], _∷_}
-use Prim.Native.Nat.{ℕ, zero, suc, _+_, _-_, _*_, _/_, _%_, _^_, _≤_, _<_, min}
+use Prim.Native.Nat.{ℕ, zero, suc, _+_, _-_, _/_, _%_, _≤_, _<_, min}
 use native.Mathlib.Omega.{arith}
 use borrow.Author.Needs.{needs}
 use borrow.Author.Tests.{eqb-true, eqb-false}
@@ -11,7 +11,7 @@ use mir.Val.{Fits}
 use lib.Dec.{eqb, ltb}
 use lib.ListN.{length, take, drop, getD, length-drop, drop-of-length-le}
 use lib.Seq.{drop-cons, drop-drop}
-use Rattle.json.specs.Bytes.{Bytes, number, part}
+use Rattle.json.specs.Bytes.{number, part}
 use Rattle.json.specs.Choose.{choose}
 use Rattle.json.specs.Texts.{byNumbers, compareNumbers, compareTexts, isEqual}
 use Rattle.json.proofs.Texts.{by-numbers, texts-equal, numbers-below, numbers-equal, numbers-above}

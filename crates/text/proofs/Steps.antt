@@ -3,14 +3,17 @@
 use mathlib.Core.Path.{_≡_, refl, sym, ap, _∙_}
 use mathlib.Core.Bool.{Bool, true, false}
 use mathlib.Core.List.{List}
-use Prim.Native.Nat.{ℕ, zero, suc, _+_, _-_, _/_, _%_, _≤_, _<_, min}
+use mathlib.Core.Logic.{_↔_}
+use Prim.Native.Nat.{ℕ, zero, suc, _+_, _/_, _%_, _≤_, _<_, min}
 use native.Mathlib.Omega.{arith}
 use borrow.Author.Tests.{le-leb, lt-leb, leb-true, leb-false}
 use lib.Dec.{leb}
 use lib.ListN.{length, take, drop, length-drop}
 use Rattle.json.specs.Choose.{choose}
 use Rattle.json.specs.Texts.{compareTexts, isEqual}
-use Rattle.json.proofs.Texts.{texts-equal}
+use Rattle.json.specs.declared.Order.{Order}
+use Rattle.json.specs.declared.Order.the-variants.{Below, Equal, Above}
+use Rattle.json.proofs.Texts.{below≢equal, equal≢above, texts-equal, texts-above}
 use Rattle.text.specs.Steps.{left, alike, step, stepsWithin, compareSteps}
 
 module _ (n : ℕ) (a b : List ℕ) where
@@ -147,3 +150,36 @@ same-within (suc k) a h =
 -- and just so many of a text with itself
 pub steps-of-same : (a : List ℕ) → compareSteps a a ≡ length a / 8 + length a % 8
 steps-of-same a = same-within (length a) a (omega arith)
+
+-- as many whichever text comes first
+alike-turned : (n : ℕ) (a b : List ℕ) → alike n a b ≡ alike n b a
+unfolding alike
+alike-turned n a b = go (compareTexts (take n a) (take n b)) (compareTexts (take n b) (take n a)) (texts-above (take n a) (take n b)) (texts-above (take n b) (take n a))
+  where
+    go : (o p : Order) → (o ≡ Above) ↔ (p ≡ Below) → (p ≡ Above) ↔ (o ≡ Below) → isEqual o ≡ isEqual p
+    go Below Below h g = refl
+    go Below Equal h g = absurd (equal≢above (g .1 refl))
+    go Below Above h g = refl
+    go Equal Below h g = absurd (equal≢above (h .1 refl))
+    go Equal Equal h g = refl
+    go Equal Above h g = absurd (below≢equal (sym (g .0 refl)))
+    go Above Below h g = refl
+    go Above Equal h g = absurd (below≢equal (sym (h .0 refl)))
+    go Above Above h g = refl
+
+step-turned : (n : ℕ) (a b : List ℕ) → compareSteps (drop n a) (drop n b) ≡ compareSteps (drop n b) (drop n a) → step n compareSteps a b ≡ step n compareSteps b a
+unfolding step
+step-turned n a b e = rw (e, alike-turned n a b)
+
+turned-within : (k : ℕ) (a b : List ℕ) → length a ≤ k → compareSteps a b ≡ compareSteps b a
+turned-within zero a b h = rw (steps-none a b (omega arith), steps-none b a (omega arith))
+turned-within (suc k) a b h =
+    by-next (λ s. s ≡ compareSteps b a) a b
+    (λ e. let l = length-drop 8 a in
+    step-turned 8 a b (turned-within k (drop 8 a) (drop 8 b) (omega arith)) ∙ sym (steps-eight b a (omega arith)))
+    (λ f e. let l = length-drop 1 a in
+    step-turned 1 a b (turned-within k (drop 1 a) (drop 1 b) (omega arith)) ∙ sym (steps-one b a (omega arith) (omega arith)))
+    (λ e. sym (steps-none b a (omega arith)))
+
+pub steps-turned : (a b : List ℕ) → compareSteps a b ≡ compareSteps b a
+steps-turned a b = turned-within (length a) a b (omega arith)

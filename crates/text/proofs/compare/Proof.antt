@@ -1,12 +1,6 @@
 use Rattle.text.proofs.Laws.{eights-laws}
 use Rattle.text.proofs.compare.Statement.{statement}
 use Rattle.text.proofs.compare.Tie as tie
-use Rattle.text.proofs.compare.Reads as reads
-use Rattle.text.proofs.compare.Lts as lts
-use Rattle.text.proofs.compare_rest.Reads as compare-rest-reads
-use Rattle.text.proofs.differ.Reads as differ-reads
-use Rattle.text.proofs.pass_equal.Reads as pass-equal-reads
-use Rattle.text.proofs.shorter.Reads as shorter-reads
 
 pass-equal-requires : tie.Need-pass-equal-requires
 pass-equal-requires c κs = search eights-laws

@@ -3,9 +3,6 @@ use Rattle.text.specs.Comparing.{ComparesFrom}
 use Rattle.text.proofs.Laws.{bytes-laws}
 use Rattle.text.proofs.compare_rest.Statement.{statement}
 use Rattle.text.proofs.compare_rest.Tie as tie
-use Rattle.text.proofs.compare_rest.Reads as reads
-use Rattle.text.proofs.compare_rest.Lts as lts
-use Rattle.text.proofs.shorter.Reads as shorter-reads
 
 abbrev Inv-loop : tie.InvT-loop
 Inv-loop a b at before n i₀ steps₀ i steps = (i ≤ n) × (n < i + 8) × (steps ≤ i) × ComparesFrom a b i steps

@@ -1,10 +1,6 @@
 use Rattle.text.proofs.Laws.{eights-laws}
 use Rattle.text.proofs.differ.Statement.{statement}
 use Rattle.text.proofs.differ.Tie as tie
-use Rattle.text.proofs.differ.Reads as reads
-use Rattle.text.proofs.differ.Lts as lts
-use Rattle.text.proofs.swap.eight.Reads as swap-eight-reads
-use Rattle.word.proofs.eight.Reads as eight-reads
 
 sub-eight : tie.Need-sub-eight
 sub-eight c = search eights-laws

@@ -4,10 +4,6 @@ use Rattle.text.specs.Comparing.{ComparesFrom}
 use Rattle.text.proofs.Laws.{eights-laws}
 use Rattle.text.proofs.pass_equal.Statement.{statement}
 use Rattle.text.proofs.pass_equal.Tie as tie
-use Rattle.text.proofs.pass_equal.Reads as reads
-use Rattle.text.proofs.pass_equal.Lts as lts
-use Rattle.text.proofs.same_eight.Reads as same-eight-reads
-use Rattle.text.proofs.shorter.Reads as shorter-reads
 
 abbrev Inv-loop : tie.InvT-loop
 Inv-loop a b n stop i₀ i = (i % 8 ≡ 0) × (i ≤ stop) × ComparesFrom a b i (i / 8)

@@ -1,9 +1,6 @@
 use Rattle.text.proofs.Laws.{same-laws}
 use Rattle.text.proofs.same.Statement.{statement}
 use Rattle.text.proofs.same.Tie as tie
-use Rattle.text.proofs.same.Reads as reads
-use Rattle.text.proofs.same.Lts as lts
-use Rattle.text.proofs.order.Reads as order-reads
 
 returns : tie.Need-returns
 returns c = search same-laws

@@ -1,9 +1,6 @@
 use Rattle.text.proofs.Laws.{eights-laws}
 use Rattle.text.proofs.same_eight.Statement.{statement}
 use Rattle.text.proofs.same_eight.Tie as tie
-use Rattle.text.proofs.same_eight.Reads as reads
-use Rattle.text.proofs.same_eight.Lts as lts
-use Rattle.word.proofs.eight.Reads as eight-reads
 
 sub-eight : tie.Need-sub-eight
 sub-eight c = search eights-laws

@@ -6,10 +6,6 @@ use Rattle.text.specs.Hash.{hashFrom, hashOf}
 use Rattle.text.proofs.Hashing.{hash-laws}
 use Rattle.text.proofs.hash.hash_of.Statement.{statement}
 use Rattle.text.proofs.hash.hash_of.Tie as tie
-use Rattle.text.proofs.hash.hash_of.Reads as reads
-use Rattle.text.proofs.hash.hash_of.Lts as lts
-use Rattle.text.proofs.hash.mix.Reads as mix-reads
-use Rattle.word.proofs.integer.Reads as integer-reads
 
 abbrev Inv-loop : tie.InvT-loop
 Inv-loop t h₀ i₀ left₀ h i left = (i + 8 * left ≤ length t) × (length t < i + 8 * left + 8) × (h < 2 ^ 33) × (hashFrom t h i left ≡ hashOf t)

@@ -1,9 +1,6 @@
 use Rattle.text.proofs.Hashing.{mix-laws}
 use Rattle.text.proofs.hash.mix.Statement.{statement}
 use Rattle.text.proofs.hash.mix.Tie as tie
-use Rattle.text.proofs.hash.mix.Reads as reads
-use Rattle.text.proofs.hash.mix.Lts as lts
-use Rattle.text.proofs.hash.scramble.Reads as scramble-reads
 
 add-scramble : tie.Need-add-scramble
 add-scramble c = search mix-laws

@@ -1,8 +1,6 @@
 use Rattle.text.proofs.Hashing.{mix-laws}
 use Rattle.text.proofs.hash.scramble.Statement.{statement}
 use Rattle.text.proofs.hash.scramble.Tie as tie
-use Rattle.text.proofs.hash.scramble.Reads as reads
-use Rattle.text.proofs.hash.scramble.Lts as lts
 
 mul-p : tie.Need-mul-p
 mul-p c = search mix-laws

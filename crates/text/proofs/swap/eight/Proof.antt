@@ -2,9 +2,6 @@ use borrow.Author.Needs.{needs}
 use Rattle.text.proofs.Swapped.{swap-laws}
 use Rattle.text.proofs.swap.eight.Statement.{statement}
 use Rattle.text.proofs.swap.eight.Tie as tie
-use Rattle.text.proofs.swap.eight.Reads as reads
-use Rattle.text.proofs.swap.eight.Lts as lts
-use Rattle.text.proofs.swap.four.Reads as four-reads
 
 four-requires : tie.Need-four-requires
 four-requires c κs = search needs

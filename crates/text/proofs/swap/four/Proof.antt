@@ -2,9 +2,6 @@ use borrow.Author.Needs.{needs}
 use Rattle.text.proofs.Swapped.{swap-laws}
 use Rattle.text.proofs.swap.four.Statement.{statement}
 use Rattle.text.proofs.swap.four.Tie as tie
-use Rattle.text.proofs.swap.four.Reads as reads
-use Rattle.text.proofs.swap.four.Lts as lts
-use Rattle.text.proofs.swap.two.Reads as two-reads
 
 two-requires : tie.Need-two-requires
 two-requires c κs = search needs

@@ -2,8 +2,6 @@ use borrow.Author.Needs.{needs}
 use Rattle.text.proofs.Swapped.{swap-laws}
 use Rattle.text.proofs.swap.two.Statement.{statement}
 use Rattle.text.proofs.swap.two.Tie as tie
-use Rattle.text.proofs.swap.two.Reads as reads
-use Rattle.text.proofs.swap.two.Lts as lts
 
 mul-result : tie.Need-mul-result
 mul-result c = search needs
