@@ -69,7 +69,7 @@ fn read_slot(doc: &[u8], index: usize, count: usize, k: usize, before: usize, st
             if k == 0 {
                 return Walk::End(end);
             }
-            let o = text::order(content(doc, before, start), content(doc, start, end));
+            let o = text::compare(content(doc, before, start), content(doc, start, end));
             match o {
                 Order::Below => Walk::End(end),
                 Order::Equal => Walk::Refused(Refusal {

@@ -50,7 +50,7 @@ fn compare_string(doc: &[u8], a: Areas, k: usize, key: &[u8]) -> Compared
     match t {
         Texted::Bad => Compared::Bad,
         Texted::At { place, len } => {
-            let o = text::order(bytes(doc, place, len), key);
+            let o = text::compare(bytes(doc, place, len), key);
             Compared::Of(o)
         }
     }

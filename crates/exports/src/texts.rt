@@ -13,5 +13,5 @@ pub extern "C" fn text_compare(a: &[u8], b: &[u8], out: &mut [u64]) -> u32
     if out.len() < 2 {
         return TOO_FEW;
     }
-    encoding::texts::give_comparison(out, text::compare(a, b))
+    encoding::texts::give_comparison(out, text::compare_with_steps(a, b))
 }

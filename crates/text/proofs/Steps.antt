@@ -1,5 +1,5 @@
 -- The steps of a comparing, as document 02 says them: one theorem for each kind of step, and one for the end. That the definition counts down
--- from a length is no part of them.
+-- from a length is no part of them. Then how many there are at most, and that it is the same whichever text comes first.
 use mathlib.Core.Path.{_≡_, refl, sym, ap, _∙_}
 use mathlib.Core.Bool.{Bool, true, false}
 use mathlib.Core.List.{List}
@@ -13,7 +13,7 @@ use Rattle.json.specs.Choose.{choose}
 use Rattle.json.specs.Texts.{compareTexts, isEqual}
 use Rattle.json.specs.declared.Order.{Order}
 use Rattle.json.specs.declared.Order.the-variants.{Below, Equal, Above}
-use Rattle.json.proofs.Texts.{below≢equal, equal≢above, texts-equal, texts-above}
+use Rattle.json.proofs.Texts.{below≢equal, equal≢above, texts-above}
 use Rattle.text.specs.Steps.{left, alike, step, stepsWithin, compareSteps}
 
 module _ (n : ℕ) (a b : List ℕ) where
@@ -24,10 +24,6 @@ module _ (n : ℕ) (a b : List ℕ) where
   not-left : min (length a) (length b) < n → left n a b ≡ false
   unfolding left
   not-left h = lt-leb n (min (length a) (length b)) h
-
-  left-says : left n a b ≡ true → n ≤ min (length a) (length b)
-  unfolding left
-  left-says e = leb-true n (min (length a) (length b)) e
 
 -- ---- with room for as many steps as there are bytes, more room changes nothing
 
@@ -88,7 +84,7 @@ module _ (a b : List ℕ) where
 -- ---- how many there are
 
 -- a comparing by what its next step is
-by-next : (P : ℕ → Type 0) (a b : List ℕ) → (8 ≤ min (length a) (length b) → P (step 8 compareSteps a b))
+pub by-next : (P : ℕ → Type 0) (a b : List ℕ) → (8 ≤ min (length a) (length b) → P (step 8 compareSteps a b))
     → (min (length a) (length b) < 8 → 1 ≤ min (length a) (length b) → P (step 1 compareSteps a b)) → (min (length a) (length b) < 1 → P 0) → P (compareSteps a b)
 by-next P a b eight one none = go (leb 8 m) (leb 1 m) refl refl
   where
@@ -129,29 +125,6 @@ most-within (suc k) a b h =
 pub steps-at-most : (a b : List ℕ) → compareSteps a b ≤ min (length a) (length b) / 8 + min (length a) (length b) % 8
 steps-at-most a b = most-within (length a) a b (omega arith)
 
-step-same : (n : ℕ) (a : List ℕ) → step n compareSteps a a ≡ suc (compareSteps (drop n a) (drop n a))
-unfolding step alike choose
-step-same n a = rw (texts-equal (take n a) (take n a) .1 refl)
-
-same-within : (k : ℕ) (a : List ℕ) → length a ≤ k → compareSteps a a ≡ length a / 8 + length a % 8
-same-within zero a h = rw (steps-none a a (omega arith)) (omega arith)
-same-within (suc k) a h =
-    by-next (λ s. s ≡ length a / 8 + length a % 8) a a
-    (λ e. let l = length-drop 8 a in
-    let r = same-within k (drop 8 a) (omega arith) in
-    let s = step-same 8 a in
-    omega arith)
-    (λ f e. let l = length-drop 1 a in
-    let r = same-within k (drop 1 a) (omega arith) in
-    let s = step-same 1 a in
-    omega arith)
-    (λ e. omega arith)
-
--- and just so many of a text with itself
-pub steps-of-same : (a : List ℕ) → compareSteps a a ≡ length a / 8 + length a % 8
-steps-of-same a = same-within (length a) a (omega arith)
-
--- as many whichever text comes first
 alike-turned : (n : ℕ) (a b : List ℕ) → alike n a b ≡ alike n b a
 unfolding alike
 alike-turned n a b = go (compareTexts (take n a) (take n b)) (compareTexts (take n b) (take n a)) (texts-above (take n a) (take n b)) (texts-above (take n b) (take n a))
@@ -181,5 +154,6 @@ turned-within (suc k) a b h =
     step-turned 1 a b (turned-within k (drop 1 a) (drop 1 b) (omega arith)) ∙ sym (steps-one b a (omega arith) (omega arith)))
     (λ e. sym (steps-none b a (omega arith)))
 
+-- as many whichever text comes first
 pub steps-turned : (a b : List ℕ) → compareSteps a b ≡ compareSteps b a
 steps-turned a b = turned-within (length a) a b (omega arith)

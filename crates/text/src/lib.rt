@@ -113,9 +113,9 @@ fn compare_rest(a: &[u8], b: &[u8], at: usize, before: usize) -> Comparison
     }
 }
 
-// The first text against the second, as unsigned bytes, a prefix below the longer: eight bytes at a step where eight are left in both, else one
-// while both have one, through the first step that differs.
-pub fn compare(a: &[u8], b: &[u8]) -> Comparison
+// The first text against the second, with the number of steps: eight bytes at a step where eight are left in both, else one while both have one,
+// through the first step that differs.
+pub fn compare_with_steps(a: &[u8], b: &[u8]) -> Comparison
     ensures { λ r. ⌜ (r .order ≡ compareTexts (now (a .entry)) (now (b .entry))) × (r .steps ≡ compareSteps (now (a .entry)) (now (b .entry))) ⌝ }
 {
     let i = pass_equal(a, b);
@@ -130,11 +130,11 @@ pub fn compare(a: &[u8], b: &[u8]) -> Comparison
     compare_rest(a, b, i, steps)
 }
 
-// The order alone.
-pub fn order(a: &[u8], b: &[u8]) -> Order
+// The first text against the second, as unsigned bytes; a prefix is below the longer.
+pub fn compare(a: &[u8], b: &[u8]) -> Order
     ensures { λ r. ⌜ r ≡ compareTexts (now (a .entry)) (now (b .entry)) ⌝ }
 {
-    let c = compare(a, b);
+    let c = compare_with_steps(a, b);
     let o = c.order;
     o
 }
@@ -146,7 +146,7 @@ pub fn same(a: &[u8], b: &[u8]) -> bool
     if a.len() != b.len() {
         return false;
     }
-    let o = order(a, b);
+    let o = compare(a, b);
     match o {
         Order::Below => false,
         Order::Equal => true,

@@ -5,8 +5,8 @@ use Rattle.text.proofs.same.Tie as tie
 returns : tie.Need-returns
 returns c = search same-laws
 
-order-requires : tie.Need-order-requires
-order-requires c κs = search same-laws
+compare-requires : tie.Need-compare-requires
+compare-requires c κs = search same-laws
 
 enum-told : tie.Need-enum-told
 enum-told c = search same-laws
@@ -31,7 +31,7 @@ same-spec =
     tie.close
     (tie.spec
     returns
-    order-requires
+    compare-requires
     enum-told
     enum-told-2
     enum-told-3

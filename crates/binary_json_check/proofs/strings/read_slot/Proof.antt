@@ -21,8 +21,8 @@ content-requires c κs = search read-slot-laws
 content-requires-2 : tie.Need-content-requires-2
 content-requires-2 c κs = search read-slot-laws
 
-order-requires : tie.Need-order-requires
-order-requires c κs = search needs
+compare-requires : tie.Need-compare-requires
+compare-requires c κs = search needs
 
 enum-told : tie.Need-enum-told
 enum-told c = search needs
@@ -73,7 +73,7 @@ read-slot-spec =
     returns
     content-requires
     content-requires-2
-    order-requires
+    compare-requires
     enum-told
     enum-told-2
     add-t16

@@ -23,8 +23,8 @@ enum-known-t c = search string-laws
 bytes-requires : tie.Need-bytes-requires
 bytes-requires c κs = search string-laws
 
-order-requires : tie.Need-order-requires
-order-requires c κs = search string-laws
+compare-requires : tie.Need-compare-requires
+compare-requires c κs = search string-laws
 
 returns : tie.Need-returns
 returns c = search string-laws
@@ -43,6 +43,6 @@ compare-string-spec =
     enum-told
     enum-known-t
     bytes-requires
-    order-requires
+    compare-requires
     returns
     returns-2)

@@ -1,6 +1,6 @@
 use Rattle.text.proofs.Laws.{eights-laws}
-use Rattle.text.proofs.compare.Statement.{statement}
-use Rattle.text.proofs.compare.Tie as tie
+use Rattle.text.proofs.compare_with_steps.Statement.{statement}
+use Rattle.text.proofs.compare_with_steps.Tie as tie
 
 pass-equal-requires : tie.Need-pass-equal-requires
 pass-equal-requires c κs = search eights-laws
@@ -26,8 +26,8 @@ compare-rest-requires c κs = search eights-laws
 returns-2 : tie.Need-returns-2
 returns-2 c = search eights-laws
 
-pub compare-spec : {M : Type 1} → statement M
-compare-spec =
+pub compare-with-steps-spec : {M : Type 1} → statement M
+compare-with-steps-spec =
     tie.close
     (tie.spec
     pass-equal-requires
