@@ -47,7 +47,7 @@ edition = "2024"
 czubrotek = { path = "$PWD/rust/czubrotek" }
 END
 {
-    echo 'use czubrotek::{binary_json, fractured_json};'
+    echo 'use czubrotek::{binary_json, fractured_json, text};'
     echo 'fn main() -> Result<(), czubrotek::Refusal> {'
     grep -o 'uint8_t doc\[\] = {[^}]*}' "$work/tour.c" | sed "s/.*{/let scenario: \&[u8] = \&[/; s/'a'/b'a'/; s/}/];/"
     block Tour 3
