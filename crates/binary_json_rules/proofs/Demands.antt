@@ -13,7 +13,7 @@ use Rattle.json.specs.Span.{Span}
 use Rattle.json.specs.Texts.{compareNumbers}
 use Rattle.json.specs.Tree.{Tree, num, str, arr, obj, Trees, Members, size, sizem, ElementIs, MemberIs, Lacks, IsContainer, NoNumber, NoString, NoObject, NoContainer, Subtree}
 use Rattle.json.proofs.Reading.{stops}
-use Rattle.json.proofs.Tree.{member-below}
+use Rattle.json.proofs.Tree.{element-below, member-below}
 use Rattle.binary_json_rules.specs.Areas.{word, high, count, slot, content}
 use Rattle.binary_json_rules.specs.Meaning.{EntryIs, ContainerIs, Means}
 use Rattle.binary_json_rules.specs.Verdict.{verdict}
@@ -88,7 +88,7 @@ module _ (doc : List ℕ) (t : Tree) (m : Means doc t) where
     -- element i of an array: its Entry stands for value i; past the end 22; of an object 21
     pub element-of-array : (ts : Trees) (i : ℕ) (v : Tree) → ContainerIs doc (arr ts) c → ElementIs ts i v
         → (ask (element doc c i) ≡ answers (c + 4 + 4 * i)) × EntryIs doc v (c + 4 + 4 * i)
-    element-of-array ts i v h x = (Answers.element-answer doc t m c i ts h aligned (Nodes.element-below ts i v x), Nodes.element-is doc ts i (c + 4) v (h .1) x)
+    element-of-array ts i v h x = (Answers.element-answer doc t m c i ts h aligned (element-below ts i v x), Nodes.element-is doc ts i (c + 4) v (h .1) x)
 
     pub element-past-end : (ts : Trees) (i : ℕ) → ContainerIs doc (arr ts) c → size ts ≤ i → ask (element doc c i) ≡ refuses 22 c
     element-past-end ts i h b = Answers.element-past doc t m c i ts h aligned b

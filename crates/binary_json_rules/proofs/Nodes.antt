@@ -12,12 +12,6 @@ use Rattle.binary_json_rules.specs.Meaning.{Meta, EntryIs, EntriesAre, M
 use Rattle.binary_json_rules.specs.Leads.{EntryOf, ofArray, ofScalar, ofObject, Leads, root, named}
 use Rattle.binary_json_rules.proofs.Trees.{entry-tree, container-tree}
 
--- an element stands only below the size
-pub element-below : (ts : Trees) (i : ℕ) (v : Tree) → ElementIs ts i v → i < size ts
-element-below none i v h = absurd h
-element-below (more t ts) zero v h = omega arith
-element-below (more t ts) (suc i) v h = let r = element-below ts i v h in omega arith
-
 -- ---- one tree each
 
 pub entry-one : (doc : List ℕ) (a : ℕ) (u v : Tree) → EntryIs doc u a → EntryIs doc v a → u ≡ v

@@ -2,12 +2,14 @@
 use Prim.Native.Nat.{_^_}
 use mathlib.Core.Bool.{true, false}
 use mathlib.Core.Path.{_≡_, refl}
+use native.Mathlib.Omega.{arith}
 use Rattle.json.specs.Bytes.{number, lowField, highField, hex}
 use Rattle.json.specs.Choose.{choose}
 use Rattle.json.specs.Limits.{leastBinary, leastFractured, longest, deepest, mostKeys, longestLine, benchKeys}
 use Rattle.json.specs.Number.{binary32, binary64, finite, magnitude, floatTree, wholeTree, signedTree}
 use Rattle.json.specs.Texts.{byNumbers, compareTexts}
-use Rattle.json.specs.Tree.{Tree, null, num, arr, obj, none, more, end, member, depth}
+use Rattle.json.specs.Tree.{Tree, null, bool, num, str, arr, obj, none, more, end, member, depth}
+use Rattle.json.specs.Node.{sNull, sBool, sNum, sStr, Node, leaf, list, dict, Nodes, nil, cons, Fields, last, field, place, bare, NodeIs, FieldIs, Within, itself, element, value}
 use Rattle.json.specs.declared.Order.the-variants.{Below, Equal, Above}
 
 -- little endian; the five-bit field is the lower one
@@ -41,6 +43,37 @@ tree = arr (more (num false (2 ^ 1074)) (more (obj (member (hex 1 0x61) (arr non
 
 pub nesting : (depth tree ≡ 3) × (depth null ≡ 0)
 nesting = (refl, refl)
+
+-- the same with places: the object's members, its values, and the whole
+abbrev fields : Fields
+fields = field 20 (hex 1 0x61) (list 36 nil) (field 24 (hex 1 0x62) (dict 40 last) last)
+
+abbrev nodes : Nodes
+nodes = cons (leaf 8 (sNum false (2 ^ 1074))) (cons (dict 16 fields) nil)
+
+abbrev node : Node
+node = list 4 nodes
+
+-- without its places it is that tree; so are a leaf's four kinds of scalar
+pub without-places :
+    (bare node ≡ tree) × (bare (leaf 8 sNull) ≡ null) × (bare (leaf 8 (sBool true)) ≡ bool true) × (bare (leaf 8 (sStr (hex 1 0x61))) ≡ str (hex 1 0x61))
+without-places = (refl, refl, refl, refl)
+
+pub places-are : (place node ≡ 4) × (place (dict 16 fields) ≡ 16) × (place (leaf 8 sNull) ≡ 8)
+places-are = (refl, refl, refl)
+
+-- value 1 and member 1 by their numbers; member 1's key stands at no other place, and there is no value 2 and no member 2
+pub in-it :
+    NodeIs nodes 1 (dict 16 fields) × FieldIs fields 1 24 (hex 1 0x62) (dict 40 last) × Within node (dict 40 last)
+    × (NodeIs nodes 2 (dict 16 fields) → ⊥) × (FieldIs fields 1 20 (hex 1 0x62) (dict 40 last) → ⊥) × (FieldIs fields 2 24 (hex 1 0x62) (dict 40 last) → ⊥)
+in-it = (
+  refl,
+  (refl, refl, refl),
+  value 16 fields 1 24 (hex 1 0x62) (element 4 nodes 1 itself refl) (refl, refl, refl),
+  (λ h. h),
+  (λ h. let e = h .0 in omega arith),
+  (λ h. h),
+)
 
 -- the limits of documents 01 and 02
 pub limits :

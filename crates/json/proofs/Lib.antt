@@ -3,6 +3,7 @@ pub mod Reading
 pub mod Sizes
 pub mod Texts
 pub mod Tree
+pub mod Node
 pub mod Bytes
 pub mod Cases
 pub mod Examples

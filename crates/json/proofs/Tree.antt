@@ -16,6 +16,11 @@ member-at end j h = absurd (omega arith)
 member-at (member k t ms) zero h = (k, t, (refl, refl))
 member-at (member k t ms) (suc j) h = member-at ms j (omega arith)
 
+pub element-below : (ts : Trees) (i : ℕ) (v : Tree) → ElementIs ts i v → i < size ts
+element-below none i v h = absurd h
+element-below (more t ts) zero v h = omega arith
+element-below (more t ts) (suc i) v h = let r = element-below ts i v h in omega arith
+
 pub member-below : (ms : Members) (j : ℕ) (k : List ℕ) (v : Tree) → MemberIs ms j k v → j < sizem ms
 member-below end j k v h = absurd h
 member-below (member x t ms) zero k v h = omega arith

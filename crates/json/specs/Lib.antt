@@ -6,3 +6,4 @@ pub mod Texts
 pub mod Span
 pub mod Number
 pub mod Tree
+pub mod Node
