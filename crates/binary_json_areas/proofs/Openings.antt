@@ -2,23 +2,24 @@
 use mathlib.Core.Path.{_≡_, sym, ap, _∙_}
 use mathlib.Core.Bool.{Bool, true, false}
 use mathlib.Core.List.{List}
-use Prim.Native.Nat.{ℕ, suc, _+_, _-_, _*_, _%_, _≤_, _<_}
+use Prim.Native.Nat.{ℕ, suc, _+_, _-_, _*_, _^_, _%_, _≤_, _<_}
 use native.Mathlib.Omega.{arith}
 use borrow.Author.Needs.{needs}
 use lib.Dec.{le→leb}
 use lib.ListN.{length}
 use mir.Syntax.{w64}
 use mir.Val.{Fits}
-use Rattle.json.specs.Reading.{Reading, ask, refuses, _>>=_}
+use Rattle.json.specs.Reading.{Reading, ask, refuses, _>>_}
 use Rattle.json.specs.declared.Refusal.{Refusal}
-use Rattle.json.proofs.Reading.{eq→eqb, over, unlike, then, stops, pass, fail, need-yes, need-no, assoc}
-use Rattle.binary_json_rules.specs.Areas.{high, index, count, slot, text, numbers}
+use Rattle.json.proofs.Reading.{eq→eqb, over, unlike, then, stops, pass, fail, need-yes, need-no}
+use Rattle.binary_json_rules.specs.Areas.{low, high, index, count, slot, text, numbers}
 use Rattle.binary_json_rules.specs.Questions.{opening, treeWord}
 use Rattle.binary_json_areas.specs.Laid.{Framed, Headed, Laid}
-use Rattle.binary_json_areas.specs.Asking.{Open, Opens, WordNamed, Placed, Places}
+use Rattle.binary_json_areas.specs.Asking.{Open, Opens, WordNamed, WordAt, WordRead}
 use Rattle.binary_json_areas.specs.declared.areas.Areas.{Areas}
 use Rattle.binary_json_areas.specs.declared.areas.Header.{Header}
 use Rattle.binary_json_areas.specs.declared.asking.Asking.{Asking}
+use Rattle.binary_json_areas.specs.declared.asking.WordHere.{WordHere}
 use Rattle.binary_json_areas.proofs.Headers.{slot-is, slots-end}
 
 -- ---- where the texts end
@@ -113,38 +114,56 @@ module _ (doc : List ℕ) (a : Areas) (x : Laid doc a) (at : ℕ) where
 
 pub ruleset word-laws = (below-tree, out-of-step, past-tree, at-the-end, in-tree, needs)
 
--- ---- both
+-- ---- the word at the cursor
 
-pub open-refused : (doc : List ℕ) (c : ℕ) (o : Asking) (r : Refusal) → Opens doc c o → o ≡ Asking.Refused r → ask (opening doc c >>= λ _. treeWord doc c c) ≡ refuses (r .number) (r .place)
-open-refused doc c o r x e = stops _ _ tt (rw e at x)
+module _ (doc : List ℕ) (a : Areas) (x : Laid doc a) (c : ℕ) (g : Bool) (w : WordNamed doc a c g) where
+  pub no-word : g ≡ false → ask (treeWord doc c c) ≡ refuses 20 c
+  no-word q = (rw q at w) c
 
-module _ (doc : List ℕ) (c : ℕ) (o : Asking) (a : Areas) (x : Opens doc c o) (e : o ≡ Asking.Of a) where
-  pub open-laid : Laid doc a
-  open-laid = let y : Open doc a c = rw e at x in y .laid
-
-  module _ (g : Bool) (w : WordNamed doc a c g) where
-    pub no-word : g ≡ false → ask (opening doc c >>= λ _. treeWord doc c c) ≡ refuses 20 c
-    no-word q = let y : Open doc a c = rw e at x in then _ _ tt (y .opens) ∙ (rw q at w) c
-
-    pub placed : g ≡ true → Placed doc a c
-    placed q =
-        let y : Open doc a c = rw e at x in
+  module _ (q : g ≡ true) where
+    pub word-inside : c + 4 ≤ length doc
+    word-inside =
         let z : WordNamed doc a c true = rw q at w in
-        record { open-at = y; inside = z .0; word-there = z .1 c }
+        let i = z .0 in
+        let s = x .framed .slots-inside in
+        omega arith
 
-pub ruleset place-laws = (open-refused, open-laid, no-word, placed, needs)
+    pub word-at : (k v : ℕ) → k ≡ low doc c → v ≡ high doc c → v < 2 ^ 27 → WordAt doc a c k v
+    word-at k v ks vs h = let z : WordNamed doc a c true = rw q at w in record { low-is = ks; high-is = vs; small = h; inside = z .0; there = z .1 c }
 
--- ---- what a question comes to
+pub ruleset word-here-laws = (no-word, word-inside, word-at, needs)
 
-pub comes-to : {A : Type 0} (doc : List ℕ) (a : Areas) (c : ℕ) (rest : Reading (Unit {0}) A) → Placed doc a c → ask (opening doc c >>= λ _. treeWord doc c c >>= λ _. rest) ≡ ask rest
-comes-to doc a c rest x = then _ _ tt (x .open-at .opens) ∙ then _ _ tt (x .word-there)
+-- what is read at the word of the tree at the cursor, of k and v, fits
+module _ (doc : List ℕ) (a : Areas) (x : Laid doc a) (c : ℕ) (w : WordHere) (h : WordRead doc a c w) (k v : ℕ) (e : w ≡ WordHere.Of k v) where
+  pub word-is : WordAt doc a c k v
+  word-is = rw e at h
 
-pub stops-before : {A : Type 0} (doc : List ℕ) (c : ℕ) (rest : Reading (Unit {0}) A) {n p : ℕ} → ask (opening doc c >>= λ _. treeWord doc c c) ≡ refuses n p
-    → ask (opening doc c >>= λ _. treeWord doc c c >>= λ _. rest) ≡ refuses n p
-stops-before doc c rest h = sym (assoc _ _ (λ _. rest) tt) ∙ stops _ _ tt h
+  pub body-fits : Fits w64 (c + 4)
+  body-fits = let i = word-is .inside in let s = x .framed .slots-inside in let l = x .framed .short in omega arith
 
-pub place-of : (doc : List ℕ) (c : ℕ) (p : Asking) → Places doc c p → (a : Areas) → p ≡ Asking.Of a → Placed doc a c
-place-of doc c p x a e = rw e at x
+  pub twice-fits : Fits w64 (2 * v)
+  twice-fits = let b = word-is .small in omega arith
 
-pub meta-inside : (doc : List ℕ) (a : Areas) (c : ℕ) → Placed doc a c → c + 4 ≤ length doc
-meta-inside doc a c x = let i = x .inside in let s = x .open-at .laid .framed .slots-inside in omega arith
+  pub entries-fit : Fits w64 (4 * v)
+  entries-fit = let b = word-is .small in omega arith
+
+  pub members-fit : Fits w64 (4 * (2 * v))
+  members-fit = let b = word-is .small in omega arith
+
+  pub array-fits : Fits w64 (c + 4 + 4 * v)
+  array-fits = let b = word-is .small in let i = word-is .inside in let s = x .framed .slots-inside in let l = x .framed .short in omega arith
+
+  pub object-fits : Fits w64 (c + 4 + 4 * (2 * v))
+  object-fits = let b = word-is .small in let i = word-is .inside in let s = x .framed .slots-inside in let l = x .framed .short in omega arith
+
+-- ---- a question: opened, and then what it asks
+
+pub open-laid : (doc : List ℕ) (c : ℕ) (o : Asking) (a : Areas) → Opens doc c o → o ≡ Asking.Of a → Laid doc a
+open-laid doc c o a x e = let y : Open doc a c = rw e at x in y .laid
+
+module _ {A : Type 0} (doc : List ℕ) (c : ℕ) (rest : Reading (Unit {0}) A) (o : Asking) (x : Opens doc c o) where
+  pub opening-refused : (r : Refusal) → o ≡ Asking.Refused r → refuses (r .number) (r .place) ≡ ask (opening doc c >> rest)
+  opening-refused r e = sym (stops _ _ tt (rw e at x))
+
+  pub opening-passed : (a : Areas) → o ≡ Asking.Of a → ask rest ≡ ask (opening doc c >> rest)
+  opening-passed a e = let y : Open doc a c = rw e at x in sym (then _ _ tt (y .opens))

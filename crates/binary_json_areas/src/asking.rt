@@ -1,11 +1,11 @@
-// What comes before every question: rules 1 to 4, the areas, and the word at the cursor.
+// What comes before every question: rules 1 to 4 and the areas; and the word of the tree that a question is asked at.
 use crate::areas::Areas;
 use crate::areas::Header;
 use json::Refusal;
 ghost use mathlib.Core.Path.{_≡_};
 ghost use Rattle.binary_json_rules.specs.Areas.{numbers};
 ghost use Rattle.binary_json_areas.specs.Laid.{Framed, Laid};
-ghost use Rattle.binary_json_areas.specs.Asking.{Opens, WordNamed, Places};
+ghost use Rattle.binary_json_areas.specs.Asking.{Opens, WordNamed, WordRead};
 
 // The areas of the document, or why the question is refused.
 pub enum Asking {
@@ -76,22 +76,24 @@ pub fn tree_word(doc: &[u8], a: Areas, at: usize) -> bool
     true
 }
 
-// What comes before every question at a word of the tree.
-pub fn place(doc: &[u8], cursor: usize) -> Asking
-    ensures { λ r. ⌜ Places (now (doc .entry)) cursor r ⌝ }
+// The two fields of a word of the tree, or why the question is refused.
+pub enum WordHere {
+    Of(usize, usize),
+    Refused(Refusal),
+}
+
+// The word of the tree at the cursor, which most questions read first; 20 if none stands there.
+pub fn word_here(doc: &[u8], a: Areas, cursor: usize) -> WordHere
+    requires { ⌜ Laid (now doc) a ⌝ }
+    ensures { λ r. ⌜ WordRead (now (doc .entry)) a cursor r ⌝ }
 {
-    let o = open(doc, cursor);
-    match o {
-        Asking::Refused(r) => Asking::Refused(r),
-        Asking::Of(a) => {
-            let good = tree_word(doc, a, cursor);
-            if good {
-                return Asking::Of(a);
-            }
-            Asking::Refused(Refusal {
-                number: 20,
-                place: cursor,
-            })
-        }
+    let good = tree_word(doc, a, cursor);
+    if good {
+        let f = crate::areas::fields_at(doc, cursor);
+        return WordHere::Of(f.low, f.high);
     }
+    WordHere::Refused(Refusal {
+        number: 20,
+        place: cursor,
+    })
 }

@@ -16,145 +16,185 @@ use Rattle.json.specs.Span as Text
 use Rattle.json.specs.declared.Refusal.{Refusal}
 use Rattle.json.proofs.Reading.{eq→eqb, past, unlike, then, stops, pass, fail, step, passed, need-done, done-answer}
 use Rattle.binary_json_rules.specs.Areas.{low, high, text, numbers}
-use Rattle.binary_json_rules.specs.Questions.{opening, treeWord, slotRead, textNamed, slotText, entryType, containerAt, stringAt, numberAt}
+use Rattle.binary_json_rules.specs.Questions.{opening, treeWord, slotRead, textNamed, slotText, typeHere, entryType, containerHere, containerAt, stringHere, stringAt, numberHere, numberAt}
 use Rattle.binary_json_rules.specs.Verdict.{numberNamed}
 use Rattle.binary_json_rules.specs.TreeOf.{slotAt}
 use Rattle.binary_json_areas.specs.Laid.{Laid}
 use Rattle.binary_json_areas.specs.Naming.{NumberNamed, TextNamed}
-use Rattle.binary_json_areas.specs.Asking.{Open, Opens, WordNamed, Placed, Places}
+use Rattle.binary_json_areas.specs.Asking.{Opens, WordNamed, WordAt, WordRead}
 use Rattle.binary_json_answers.specs.Told.{toldSpan, SpanInside}
 use Rattle.binary_json_answers.specs.declared.Span.{Span}
 use Rattle.binary_json_areas.specs.declared.areas.Areas.{Areas}
 use Rattle.binary_json_areas.specs.declared.asking.Asking.{Asking}
+use Rattle.binary_json_areas.specs.declared.asking.WordHere.{WordHere}
 use Rattle.binary_json_areas.specs.declared.named.Numbered.{Numbered}
 use Rattle.binary_json_areas.specs.declared.named.Texted.{Texted}
-use Rattle.binary_json_areas.proofs.Openings.{comes-to, stops-before, place-of, meta-inside}
+use Rattle.binary_json_areas.proofs.Openings.{word-is, open-laid, opening-refused, opening-passed}
 
-module _ (doc : List ℕ) (c : ℕ) (p : Asking) (x : Places doc c p) (r : Refusal) (e : p ≡ Asking.Refused r) where
-  pub type-stops : refuses (r .number) (r .place) ≡ ask (entryType doc c)
-  unfolding entryType
-  type-stops = sym (stops-before doc c _ (rw e at x))
+module _ (doc : List ℕ) (a : Areas) (x : Laid doc a) (c : ℕ) (w : WordHere) (h : WordRead doc a c w) where
+  -- no word of the tree stands there
+  module _ (r : Refusal) (e : w ≡ WordHere.Refused r) where
+    pub type-outside : refuses (r .number) (r .place) ≡ ask (typeHere doc c)
+    unfolding typeHere
+    type-outside = sym (stops _ _ tt (rw e at h))
 
-  pub container-stops : refuses (r .number) (r .place) ≡ ask (containerAt doc c)
-  unfolding containerAt
-  container-stops = sym (stops-before doc c _ (rw e at x))
+    pub container-outside : refuses (r .number) (r .place) ≡ ask (containerHere doc c)
+    unfolding containerHere
+    container-outside = sym (stops _ _ tt (rw e at h))
 
-  pub string-stops : refuses (r .number) (r .place) ≡ ask (stringAt doc c)
-  unfolding stringAt
-  string-stops = sym (stops-before doc c _ (rw e at x))
+    pub number-outside : refuses (r .number) (r .place) ≡ ask (numberHere doc c)
+    unfolding numberHere
+    number-outside = sym (stops _ _ tt (rw e at h))
 
-  pub number-stops : refuses (r .number) (r .place) ≡ ask (numberAt doc c)
-  unfolding numberAt
-  number-stops = sym (stops-before doc c _ (rw e at x))
+    pub string-outside : refuses (r .number) (r .place) ≡ ask (stringHere doc c)
+    unfolding stringHere
+    string-outside = sym (stops _ _ tt (rw e at h))
 
--- ---- type
+  -- an Entry of a type and a value
+  module _ (kind value : ℕ) (e : w ≡ WordHere.Of kind value) where
+    entry : WordAt doc a c kind value
+    entry = word-is doc a x c w h kind value e
 
-module _ (doc : List ℕ) (a : Areas) (c : ℕ) (x : Placed doc a c) (kind : ℕ) (ks : kind ≡ low doc c) where
-  to-type : ask (need (ltb kind 6) 21 c >>= λ _. answer kind) ≡ ask (entryType doc c)
-  unfolding entryType
-  to-type = sym (comes-to doc a c _ x ∙ rw (sym ks))
+    -- ---- type
 
-  pub typed : (t : ℕ) → kind ≡ t → T (ltb t 6) → answers t ≡ ask (entryType doc c)
-  typed t e h = sym (rw e (pass _ _ _ _ tt h)) ∙ to-type
+    to-type : ask (need (ltb kind 6) 21 c >>= λ _. answer kind) ≡ ask (typeHere doc c)
+    unfolding typeHere
+    to-type = sym (then _ _ tt (entry .there) ∙ rw (sym (entry .low-is)))
 
-  pub untyped : (kind ≡ 0 → ⊥) → (kind ≡ 1 → ⊥) → (kind ≡ 2 → ⊥) → (kind ≡ 3 → ⊥) → (kind ≡ 4 → ⊥) → (kind ≡ 5 → ⊥) → refuses 21 c ≡ ask (entryType doc c)
-  untyped n0 n1 n2 n3 n4 n5 = let h : 6 ≤ kind = omega arith in sym (fail _ _ _ _ tt (past h)) ∙ to-type
+    pub typed : (t : ℕ) → kind ≡ t → T (ltb t 6) → answers t ≡ ask (typeHere doc c)
+    typed t e h = sym (rw e (pass _ _ _ _ tt h)) ∙ to-type
 
-pub ruleset type-laws = (place-of, type-stops, typed, untyped, needs)
+    pub untyped : (kind ≡ 0 → ⊥) → (kind ≡ 1 → ⊥) → (kind ≡ 2 → ⊥) → (kind ≡ 3 → ⊥) → (kind ≡ 4 → ⊥) → (kind ≡ 5 → ⊥) → refuses 21 c ≡ ask (typeHere doc c)
+    untyped n0 n1 n2 n3 n4 n5 = let h : 6 ≤ kind = omega arith in sym (fail _ _ _ _ tt (past h)) ∙ to-type
 
--- ---- container, number and string
+    -- ---- container
 
-module _ (doc : List ℕ) (c : ℕ) (p : Asking) (y : Places doc c p) (a : Areas) (e : p ≡ Asking.Of a) where
-  here : Placed doc a c
-  here = place-of doc c p y a e
+    to-container : ask (need (eqb kind 5) 21 c >>= λ _. treeWord doc value c >>= λ _. answer value) ≡ ask (containerHere doc c)
+    unfolding containerHere
+    to-container = sym (then _ _ tt (entry .there) ∙ rw (sym (entry .low-is), sym (entry .high-is)))
 
-  pub entry-inside : c + 4 ≤ length doc
-  entry-inside = meta-inside doc a c here
-
-  pub entry-laid : Laid doc a
-  entry-laid = here .open-at .laid
-
-  module _ (kind value : ℕ) (ks : kind ≡ low doc c) (vs : value ≡ high doc c) where
-    to-container : ask (need (eqb kind 5) 21 c >>= λ _. treeWord doc value c >>= λ _. answer value) ≡ ask (containerAt doc c)
-    unfolding containerAt
-    to-container = sym (comes-to doc a c _ here ∙ rw (sym ks, sym vs))
-
-    pub no-container : (kind ≡ 5 → ⊥) → refuses 21 c ≡ ask (containerAt doc c)
+    pub no-container : (kind ≡ 5 → ⊥) → refuses 21 c ≡ ask (containerHere doc c)
     no-container q = sym (fail _ _ _ _ tt (unlike q)) ∙ to-container
 
-    module _ (k5 : kind ≡ 5) (g : Bool) (w : WordNamed doc a value g) where
-      pub container-outside : g ≡ false → refuses 20 c ≡ ask (containerAt doc c)
-      container-outside q = sym (pass _ _ _ _ tt (eq→eqb k5) ∙ stops _ _ tt ((rw q at w) c)) ∙ to-container
+    module _ (k5 : kind ≡ 5) (g : Bool) (named : WordNamed doc a value g) where
+      pub container-nowhere : g ≡ false → refuses 20 c ≡ ask (containerHere doc c)
+      container-nowhere q = sym (pass _ _ _ _ tt (eq→eqb k5) ∙ stops _ _ tt ((rw q at named) c)) ∙ to-container
 
-      pub container-found : g ≡ true → answers value ≡ ask (containerAt doc c)
-      container-found q = let z : WordNamed doc a value true = rw q at w in sym (pass _ _ _ _ tt (eq→eqb k5) ∙ then _ _ tt (z .1 c)) ∙ to-container
+      pub container-found : g ≡ true → answers value ≡ ask (containerHere doc c)
+      container-found q = let z : WordNamed doc a value true = rw q at named in sym (pass _ _ _ _ tt (eq→eqb k5) ∙ then _ _ tt (z .1 c)) ∙ to-container
 
-    to-number : ask (need (eqb kind 4) 21 c >>= λ _. numberNamed doc value 20 c >>= λ _. answer (number doc value 8)) ≡ ask (numberAt doc c)
-    unfolding numberAt
-    to-number = sym (comes-to doc a c _ here ∙ rw (sym ks, sym vs))
+    -- ---- number
 
-    pub no-number : (kind ≡ 4 → ⊥) → refuses 21 c ≡ ask (numberAt doc c)
+    to-number : ask (need (eqb kind 4) 21 c >>= λ _. numberNamed doc value 20 c >>= λ _. answer (number doc value 8)) ≡ ask (numberHere doc c)
+    unfolding numberHere
+    to-number = sym (then _ _ tt (entry .there) ∙ rw (sym (entry .low-is), sym (entry .high-is)))
+
+    pub no-number : (kind ≡ 4 → ⊥) → refuses 21 c ≡ ask (numberHere doc c)
     no-number q = sym (fail _ _ _ _ tt (unlike q)) ∙ to-number
 
     module _ (k4 : kind ≡ 4) (m : Numbered) (named : NumberNamed doc value m) where
-      pub number-found : (bits : ℕ) → m ≡ Numbered.Finite bits → answers bits ≡ ask (numberAt doc c)
+      pub number-found : (bits : ℕ) → m ≡ Numbered.Finite bits → answers bits ≡ ask (numberHere doc c)
       number-found bits q =
           let z : NumberNamed doc value (Numbered.Finite bits) = rw q at named in
           sym (pass _ _ _ _ tt (eq→eqb k4) ∙ (then _ _ tt (z .1 20 c) ∙ ap answers (sym (z .0)))) ∙ to-number
 
-      pub number-not-finite : m ≡ Numbered.NotFinite → refuses 10 c ≡ ask (numberAt doc c)
+      pub number-not-finite : m ≡ Numbered.NotFinite → refuses 10 c ≡ ask (numberHere doc c)
       number-not-finite q = sym (pass _ _ _ _ tt (eq→eqb k4) ∙ stops _ _ tt ((rw q at named) 20 c)) ∙ to-number
 
-      pub number-outside : m ≡ Numbered.Outside → refuses 20 c ≡ ask (numberAt doc c)
-      number-outside q = sym (pass _ _ _ _ tt (eq→eqb k4) ∙ stops _ _ tt ((rw q at named) 20 c)) ∙ to-number
+      pub number-nowhere : m ≡ Numbered.Outside → refuses 20 c ≡ ask (numberHere doc c)
+      number-nowhere q = sym (pass _ _ _ _ tt (eq→eqb k4) ∙ stops _ _ tt ((rw q at named) 20 c)) ∙ to-number
 
-    to-string : ask (need (eqb kind 3) 21 c >>= λ _. textNamed doc value c) ≡ ask (stringAt doc c)
-    unfolding stringAt
-    to-string = sym (comes-to doc a c _ here ∙ rw (sym ks, sym vs))
+    -- ---- string
 
-    pub no-string : (kind ≡ 3 → ⊥) → refuses 21 c ≡ ask (stringAt doc c)
+    to-string : ask (need (eqb kind 3) 21 c >>= λ _. textNamed doc value c) ≡ ask (stringHere doc c)
+    unfolding stringHere
+    to-string = sym (then _ _ tt (entry .there) ∙ rw (sym (entry .low-is), sym (entry .high-is)))
+
+    pub no-string : (kind ≡ 3 → ⊥) → refuses 21 c ≡ ask (stringHere doc c)
     no-string q = sym (fail _ _ _ _ tt (unlike q)) ∙ to-string
 
     module _ (k3 : kind ≡ 3) (t : Texted) (named : TextNamed doc value t) where
-      pub string-found : (o l : ℕ) → t ≡ Texted.At o l → answers (record { place = o; len = l }) ≡ ask (stringAt doc c)
+      pub string-found : (o l : ℕ) → t ≡ Texted.At o l → answers (record { place = o; len = l }) ≡ ask (stringHere doc c)
       string-found o l q =
           let z : TextNamed doc value (Texted.At o l) = rw q at named in
           sym (pass _ _ _ _ tt (eq→eqb k3) ∙ z .1 c) ∙ to-string
 
-      pub string-bad : t ≡ Texted.Bad → refuses 20 c ≡ ask (stringAt doc c)
+      pub string-bad : t ≡ Texted.Bad → refuses 20 c ≡ ask (stringHere doc c)
       string-bad q = sym (pass _ _ _ _ tt (eq→eqb k3) ∙ (rw q at named) c) ∙ to-string
 
-pub ruleset container-laws = (container-stops, entry-inside, entry-laid, no-container, container-outside, container-found, needs)
+pub ruleset type-here-laws = (type-outside, typed, untyped, needs)
 
-pub ruleset number-laws = (number-stops, entry-inside, entry-laid, no-number, number-found, number-not-finite, number-outside, needs)
+pub ruleset container-here-laws = (container-outside, no-container, container-nowhere, container-found, needs)
 
-pub ruleset string-laws = (string-stops, entry-inside, entry-laid, no-string, string-found, string-bad, needs)
+pub ruleset number-here-laws = (number-outside, no-number, number-found, number-not-finite, number-nowhere, needs)
+
+pub ruleset string-here-laws = (string-outside, no-string, string-found, string-bad, needs)
 
 -- ---- slots
 
-pub slot-stops : (doc : List ℕ) (c : ℕ) (o : Asking) (r : Refusal) → Opens doc c o → o ≡ Asking.Refused r → refuses (r .number) (r .place) ≡ ask (slotText doc c)
-unfolding slotText
-slot-stops doc c o r x e = sym (stops _ _ tt (rw e at x))
+module _ (doc : List ℕ) (c : ℕ) (t : Texted) (named : TextNamed doc c t) where
+  pub slot-found : (p l : ℕ) → t ≡ Texted.At p l → answers (record { place = p; len = l }) ≡ ask (textNamed doc c c)
+  slot-found p l q = let z : TextNamed doc c (Texted.At p l) = rw q at named in sym (z .1 c)
 
-module _ (doc : List ℕ) (c : ℕ) (o : Asking) (x : Opens doc c o) (a : Areas) (e : o ≡ Asking.Of a) where
-  opened : Open doc a c
-  opened = rw e at x
+  pub slot-bad : t ≡ Texted.Bad → refuses 20 c ≡ ask (textNamed doc c c)
+  slot-bad q = sym ((rw q at named) c)
 
-  pub slot-laid : Laid doc a
-  slot-laid = opened .laid
+pub ruleset slot-here-laws = (slot-found, slot-bad, needs)
 
-  module _ (t : Texted) (named : TextNamed doc c t) where
-    pub slot-found : (p l : ℕ) → t ≡ Texted.At p l → answers (record { place = p; len = l }) ≡ ask (slotText doc c)
+-- ---- each question: opened, and then what it asks
+
+module _ (doc : List ℕ) (c : ℕ) (o : Asking) (x : Opens doc c o) where
+  module _ (r : Refusal) (e : o ≡ Asking.Refused r) where
+    pub type-closed : refuses (r .number) (r .place) ≡ ask (entryType doc c)
+    unfolding entryType
+    type-closed = opening-refused doc c _ o x r e
+
+    pub container-closed : refuses (r .number) (r .place) ≡ ask (containerAt doc c)
+    unfolding containerAt
+    container-closed = opening-refused doc c _ o x r e
+
+    pub number-closed : refuses (r .number) (r .place) ≡ ask (numberAt doc c)
+    unfolding numberAt
+    number-closed = opening-refused doc c _ o x r e
+
+    pub string-closed : refuses (r .number) (r .place) ≡ ask (stringAt doc c)
+    unfolding stringAt
+    string-closed = opening-refused doc c _ o x r e
+
+    pub slot-closed : refuses (r .number) (r .place) ≡ ask (slotText doc c)
     unfolding slotText
-    slot-found p l q =
-        let z : TextNamed doc c (Texted.At p l) = rw q at named in
-        sym (then _ _ tt (opened .opens) ∙ z .1 c)
+    slot-closed = opening-refused doc c _ o x r e
 
-    pub slot-bad : t ≡ Texted.Bad → refuses 20 c ≡ ask (slotText doc c)
+  module _ (a : Areas) (e : o ≡ Asking.Of a) where
+    pub type-opened : (s : Asked ℕ) → s ≡ ask (typeHere doc c) → s ≡ ask (entryType doc c)
+    unfolding entryType
+    type-opened s h = h ∙ opening-passed doc c _ o x a e
+
+    pub container-opened : (s : Asked ℕ) → s ≡ ask (containerHere doc c) → s ≡ ask (containerAt doc c)
+    unfolding containerAt
+    container-opened s h = h ∙ opening-passed doc c _ o x a e
+
+    pub number-opened : (s : Asked ℕ) → s ≡ ask (numberHere doc c) → s ≡ ask (numberAt doc c)
+    unfolding numberAt
+    number-opened s h = h ∙ opening-passed doc c _ o x a e
+
+    pub string-opened : (s : Asked Text.Span) → s ≡ ask (stringHere doc c) → s ≡ ask (stringAt doc c)
+    unfolding stringAt
+    string-opened s h = h ∙ opening-passed doc c _ o x a e
+
+    pub slot-opened : (s : Asked Text.Span) → s ≡ ask (textNamed doc c c) → s ≡ ask (slotText doc c)
     unfolding slotText
-    slot-bad q = sym (then _ _ tt (opened .opens) ∙ (rw q at named) c)
+    slot-opened s h = h ∙ opening-passed doc c _ o x a e
 
-pub ruleset slot-laws = (slot-stops, slot-laid, slot-found, slot-bad, needs)
+pub ruleset type-laws = (open-laid, type-closed, type-opened, needs)
+
+pub ruleset container-laws = (open-laid, container-closed, container-opened, needs)
+
+pub ruleset number-laws = (open-laid, number-closed, number-opened, needs)
+
+pub ruleset string-laws = (open-laid, string-closed, string-opened, needs)
+
+pub ruleset slot-laws = (open-laid, slot-closed, slot-opened, needs)
 
 -- ---- texts, as parts of the document
 
@@ -200,7 +240,7 @@ span-inside doc (Span.At p l) h = h (record { place = p; len = l }) refl
 span-inside doc (Span.Refused r) h = tt
 
 pub string-inside : (doc : List ℕ) (c : ℕ) (s : Span) → toldSpan s ≡ ask (stringAt doc c) → SpanInside doc s
-unfolding stringAt
+unfolding stringAt stringHere
 string-inside doc c s e = span-inside doc s (λ x q.
     let h : ask (stringAt doc c) ≡ answers x = sym e ∙ q in
     let s1 = step _ _ tt h in

@@ -1,10 +1,12 @@
-// The questions at an Entry and at a slot, each on lent bytes and a cursor, right even where nobody checked.
+// The questions at an Entry and at a slot, each on lent bytes and a cursor, right even where nobody checked. What a question asks
+// after its opening is a function of its own (`.._here`), lent the areas that the opening found, for walks that open once.
 use binary_json_answers::Bits;
 use binary_json_answers::Span;
 use binary_json_answers::TreeAt;
 use binary_json_answers::Typed;
 use binary_json_areas::areas::Areas;
 use binary_json_areas::asking::Asking;
+use binary_json_areas::asking::WordHere;
 use binary_json_areas::named::Numbered;
 use binary_json_areas::named::Texted;
 use binary_json_areas::offsets::NumberOffset;
@@ -14,64 +16,67 @@ use json::Refusal;
 ghost use mathlib.Core.Path.{_≡_};
 ghost use Rattle.json.specs.Reading.{ask};
 ghost use Rattle.json.specs.Span.{spanned};
-ghost use Rattle.binary_json_rules.specs.Questions.{slotText, slotBytes, entryType, containerAt, stringAt, stringBytes, numberAt};
-ghost use Rattle.binary_json_areas.specs.Asking.{Placed};
+ghost use Rattle.binary_json_rules.specs.Questions.{textNamed, slotText, slotBytes, typeHere, entryType, containerHere, containerAt, stringHere, stringAt, stringBytes, numberHere, numberAt};
+ghost use Rattle.binary_json_areas.specs.Laid.{Laid};
 ghost use Rattle.binary_json_answers.specs.Told.{SpanInside, toldTree, toldType, toldSpan, toldBits};
 
-fn type_at(doc: &[u8], a: Areas, c: usize) -> Typed
-    requires { ⌜ Placed (now doc) a c ⌝ }
-    ensures { λ r. ⌜ toldType r ≡ ask (entryType (now (doc .entry)) c) ⌝ }
+// ---- at an Entry
+
+pub fn type_here(doc: &[u8], a: Areas, cursor: TreeOffset) -> Typed
+    requires { ⌜ Laid (now doc) a ⌝ }
+    ensures { λ r. ⌜ toldType r ≡ ask (typeHere (now (doc .entry)) (cursor .0)) ⌝ }
 {
-    let f = binary_json_areas::areas::fields_at(doc, c);
-    let kind = f.low;
-    if kind == 0 {
-        return Typed::False;
+    let c = cursor.0;
+    let w = binary_json_areas::asking::word_here(doc, a, c);
+    match w {
+        WordHere::Refused(r) => Typed::Refused(r),
+        WordHere::Of(kind, _) => {
+            if kind == 0 {
+                return Typed::False;
+            }
+            if kind == 1 {
+                return Typed::True;
+            }
+            if kind == 2 {
+                return Typed::Null;
+            }
+            if kind == 3 {
+                return Typed::String;
+            }
+            if kind == 4 {
+                return Typed::Number;
+            }
+            if kind == 5 {
+                return Typed::Container;
+            }
+            Typed::Refused(Refusal {
+                number: 21,
+                place: c,
+            })
+        }
     }
-    if kind == 1 {
-        return Typed::True;
-    }
-    if kind == 2 {
-        return Typed::Null;
-    }
-    if kind == 3 {
-        return Typed::String;
-    }
-    if kind == 4 {
-        return Typed::Number;
-    }
-    if kind == 5 {
-        return Typed::Container;
-    }
-    Typed::Refused(Refusal {
-        number: 21,
-        place: c,
-    })
 }
 
 // The type of the Entry at the cursor.
 pub fn entry_type(doc: &[u8], cursor: TreeOffset) -> Typed
     ensures { λ r. ⌜ toldType r ≡ ask (entryType (now (doc .entry)) (cursor .0)) ⌝ }
 {
-    let c = cursor.0;
-    let p = binary_json_areas::asking::place(doc, c);
-    match p {
+    let o = binary_json_areas::asking::open(doc, cursor.0);
+    match o {
         Asking::Refused(r) => Typed::Refused(r),
-        Asking::Of(a) => type_at(doc, a, c),
+        Asking::Of(a) => type_here(doc, a, cursor),
     }
 }
 
-// The container that the Entry at the cursor names.
-pub fn container(doc: &[u8], cursor: TreeOffset) -> TreeAt
-    ensures { λ r. ⌜ toldTree r ≡ ask (containerAt (now (doc .entry)) (cursor .0)) ⌝ }
+pub fn container_here(doc: &[u8], a: Areas, cursor: TreeOffset) -> TreeAt
+    requires { ⌜ Laid (now doc) a ⌝ }
+    ensures { λ r. ⌜ toldTree r ≡ ask (containerHere (now (doc .entry)) (cursor .0)) ⌝ }
 {
     let c = cursor.0;
-    let p = binary_json_areas::asking::place(doc, c);
-    match p {
-        Asking::Refused(r) => TreeAt::Refused(r),
-        Asking::Of(a) => {
-            let f = binary_json_areas::areas::fields_at(doc, c);
-            let kind = f.low;
-            let value = f.high;
+    let w = binary_json_areas::asking::word_here(doc, a, c);
+    match w {
+        WordHere::Refused(r) => TreeAt::Refused(r),
+        WordHere::Of(kind, value) => {
             if kind != 5 {
                 return TreeAt::Refused(Refusal {
                     number: 21,
@@ -90,18 +95,26 @@ pub fn container(doc: &[u8], cursor: TreeOffset) -> TreeAt
     }
 }
 
-// The number of the Entry at the cursor: its 64 bits.
-pub fn number(doc: &[u8], cursor: TreeOffset) -> Bits
-    ensures { λ r. ⌜ toldBits r ≡ ask (numberAt (now (doc .entry)) (cursor .0)) ⌝ }
+// The container that the Entry at the cursor names.
+pub fn container(doc: &[u8], cursor: TreeOffset) -> TreeAt
+    ensures { λ r. ⌜ toldTree r ≡ ask (containerAt (now (doc .entry)) (cursor .0)) ⌝ }
+{
+    let o = binary_json_areas::asking::open(doc, cursor.0);
+    match o {
+        Asking::Refused(r) => TreeAt::Refused(r),
+        Asking::Of(a) => container_here(doc, a, cursor),
+    }
+}
+
+pub fn number_here(doc: &[u8], a: Areas, cursor: TreeOffset) -> Bits
+    requires { ⌜ Laid (now doc) a ⌝ }
+    ensures { λ r. ⌜ toldBits r ≡ ask (numberHere (now (doc .entry)) (cursor .0)) ⌝ }
 {
     let c = cursor.0;
-    let p = binary_json_areas::asking::place(doc, c);
-    match p {
-        Asking::Refused(r) => Bits::Refused(r),
-        Asking::Of(a) => {
-            let f = binary_json_areas::areas::fields_at(doc, c);
-            let kind = f.low;
-            let value = f.high;
+    let w = binary_json_areas::asking::word_here(doc, a, c);
+    match w {
+        WordHere::Refused(r) => Bits::Refused(r),
+        WordHere::Of(kind, value) => {
             if kind != 4 {
                 return Bits::Refused(Refusal {
                     number: 21,
@@ -124,18 +137,26 @@ pub fn number(doc: &[u8], cursor: TreeOffset) -> Bits
     }
 }
 
-// The string of the Entry at the cursor: where it stands and how long it is.
-pub fn string(doc: &[u8], cursor: TreeOffset) -> Span
-    ensures { λ r. ⌜ toldSpan r ≡ ask (stringAt (now (doc .entry)) (cursor .0)) ⌝ }
+// The number of the Entry at the cursor: its 64 bits.
+pub fn number(doc: &[u8], cursor: TreeOffset) -> Bits
+    ensures { λ r. ⌜ toldBits r ≡ ask (numberAt (now (doc .entry)) (cursor .0)) ⌝ }
+{
+    let o = binary_json_areas::asking::open(doc, cursor.0);
+    match o {
+        Asking::Refused(r) => Bits::Refused(r),
+        Asking::Of(a) => number_here(doc, a, cursor),
+    }
+}
+
+pub fn string_here(doc: &[u8], a: Areas, cursor: TreeOffset) -> Span
+    requires { ⌜ Laid (now doc) a ⌝ }
+    ensures { λ r. ⌜ toldSpan r ≡ ask (stringHere (now (doc .entry)) (cursor .0)) ⌝ }
 {
     let c = cursor.0;
-    let p = binary_json_areas::asking::place(doc, c);
-    match p {
-        Asking::Refused(r) => Span::Refused(r),
-        Asking::Of(a) => {
-            let f = binary_json_areas::areas::fields_at(doc, c);
-            let kind = f.low;
-            let value = f.high;
+    let w = binary_json_areas::asking::word_here(doc, a, c);
+    match w {
+        WordHere::Refused(r) => Span::Refused(r),
+        WordHere::Of(kind, value) => {
             if kind != 3 {
                 return Span::Refused(Refusal {
                     number: 21,
@@ -151,6 +172,17 @@ pub fn string(doc: &[u8], cursor: TreeOffset) -> Span
                 }),
             }
         }
+    }
+}
+
+// The string of the Entry at the cursor: where it stands and how long it is.
+pub fn string(doc: &[u8], cursor: TreeOffset) -> Span
+    ensures { λ r. ⌜ toldSpan r ≡ ask (stringAt (now (doc .entry)) (cursor .0)) ⌝ }
+{
+    let o = binary_json_areas::asking::open(doc, cursor.0);
+    match o {
+        Asking::Refused(r) => Span::Refused(r),
+        Asking::Of(a) => string_here(doc, a, cursor),
     }
 }
 
@@ -175,6 +207,20 @@ pub fn string_text(doc: &[u8], cursor: TreeOffset) -> &[u8]
 
 // ---- at a slot
 
+pub fn slot_here(doc: &[u8], a: Areas, cursor: SlotOffset) -> Span
+    requires { ⌜ Laid (now doc) a ⌝ }
+    ensures { λ r. ⌜ toldSpan r ≡ ask (textNamed (now (doc .entry)) (cursor .0) (cursor .0)) ⌝ }
+{
+    let t = binary_json_areas::named::text_named(doc, a, cursor);
+    match t {
+        Texted::At { place, len } => Span::At { place, len },
+        Texted::Bad => Span::Refused(Refusal {
+            number: 20,
+            place: cursor.0,
+        }),
+    }
+}
+
 // The text of the slot at the cursor: where it stands and how long it is.
 pub fn slot(doc: &[u8], cursor: SlotOffset) -> Span
     ensures { λ r. ⌜ toldSpan r ≡ ask (slotText (now (doc .entry)) (cursor .0)) ⌝ }
@@ -183,16 +229,7 @@ pub fn slot(doc: &[u8], cursor: SlotOffset) -> Span
     let o = binary_json_areas::asking::open(doc, c);
     match o {
         Asking::Refused(r) => Span::Refused(r),
-        Asking::Of(a) => {
-            let t = binary_json_areas::named::text_named(doc, a, SlotOffset(c));
-            match t {
-                Texted::At { place, len } => Span::At { place, len },
-                Texted::Bad => Span::Refused(Refusal {
-                    number: 20,
-                    place: c,
-                }),
-            }
-        }
+        Asking::Of(a) => slot_here(doc, a, cursor),
     }
 }
 

@@ -11,7 +11,7 @@ use mir.Syntax.{w64}
 use mir.Val.{Fits}
 use Rattle.json.specs.Bytes.{part}
 use Rattle.json.specs.Choose.{choose}
-use Rattle.json.specs.Reading.{ask, answers, refuses, answer, _>>=_}
+use Rattle.json.specs.Reading.{Asked, ask, answers, refuses, answer, _>>=_}
 use Rattle.json.specs.Texts.{compareTexts, isEqual}
 use Rattle.json.specs.declared.Order.{Order}
 use Rattle.json.specs.declared.Order.the-variants.{Below, Equal, Above}
@@ -23,20 +23,23 @@ use Rattle.binary_json_rules.specs.Meaning.{SlotIs}
 use Rattle.binary_json_rules.specs.TreeOf.{slotAt}
 use Rattle.binary_json_rules.specs.Questions.{slotRead, textNamed, entryOf}
 use Rattle.binary_json_rules.specs.Halving.{Item, compares, unreadable, Halved, found, missed, broken, middle, turn, halveIf, halveFrom, halve}
-use Rattle.binary_json_rules.specs.Lookup.{entry, absent, stringItem, strings, keyItem, keys, afterKeys, afterStrings, quickLookup, Lookup, lookup, lookupOf, scanFrom, plainScan}
+use Rattle.binary_json_rules.specs.Lookup.{Found, entry, absent, stringItem, strings, keyItem, keys, afterKeys, afterStrings, quickHere, quickLookup, Lookup, lookup, lookupOf, scanFrom, scanHere, plainScan}
 use Rattle.binary_json_rules.proofs.Complete.{slot-named}
 use Rattle.binary_json_rules.proofs.Trees.{slot-at}
 use Rattle.binary_json_areas.specs.Laid.{Laid}
 use Rattle.binary_json_areas.specs.Naming.{SlotNamed, TextRead, TextNamed}
+use Rattle.binary_json_areas.specs.Asking.{Opens}
 use Rattle.binary_json_metas.specs.Objects.{ObjectAt, ObjectRead}
 use Rattle.binary_json_lookup.specs.Lookups.{Matches, TextMatched, toldItem, stringItems, toldHalving, Within}
 use Rattle.binary_json_areas.specs.declared.areas.Areas.{Areas}
+use Rattle.binary_json_areas.specs.declared.asking.Asking.{Asking}
 use Rattle.binary_json_lookup.specs.declared.lookup.Compared.{Compared}
 use Rattle.binary_json_lookup.specs.declared.lookup.Halving.{Halving}
 use Rattle.binary_json_lookup.specs.declared.lookup.Matched.{Matched}
 use Rattle.binary_json_areas.specs.declared.named.Texted.{Texted}
 use Rattle.binary_json_metas.specs.declared.Object.{Object}
 use Rattle.binary_json_areas.proofs.Headers.{slot-is}
+use Rattle.binary_json_areas.proofs.Openings.{open-laid, opening-refused, opening-passed}
 use Rattle.binary_json_metas.proofs.Metas.{object-of}
 
 -- ---- a text against a key
@@ -235,44 +238,44 @@ pub ruleset look-key-laws = (key-looked, key-not-looked, key-broken, found-withi
 
 module _ (doc : List ℕ) (a : Areas) (c n : ℕ) (key : List ℕ) (x : ObjectAt doc a c n) (s : Halving) where
   module _ (h : toldHalving s ≡ strings doc key) where
-    to-strings : (y : Halved) → toldHalving s ≡ y → lookupOf (ask (afterStrings doc c n y)) ≡ lookupOf (ask (quickLookup doc c key))
-    unfolding quickLookup
+    to-strings : (y : Halved) → toldHalving s ≡ y → lookupOf (ask (afterStrings doc c n y)) ≡ lookupOf (ask (quickHere doc c key))
+    unfolding quickHere
     to-strings y e = ap (λ z. lookupOf (ask (afterStrings doc c n z))) (sym e ∙ h) ∙ ap lookupOf (sym (then _ _ tt (x .answered)))
 
-    pub string-looked : (at turns : ℕ) (r : Lookup) → s ≡ Halving.Found at turns → r ≡ lookupOf (ask (afterKeys c n turns (keys doc c n (slot doc at)))) → r ≡ lookupOf (ask (quickLookup doc c key))
+    pub string-looked : (at turns : ℕ) (r : Lookup) → s ≡ Halving.Found at turns → r ≡ lookupOf (ask (afterKeys c n turns (keys doc c n (slot doc at)))) → r ≡ lookupOf (ask (quickHere doc c key))
     unfolding afterStrings lookupOf
     string-looked at turns r e q = q ∙ to-strings (found at turns) (ap toldHalving e)
 
-    pub string-not-looked : (at turns : ℕ) → s ≡ Halving.Missed at turns → lookup (answers absent) turns 0 ≡ lookupOf (ask (quickLookup doc c key))
+    pub string-not-looked : (at turns : ℕ) → s ≡ Halving.Missed at turns → lookup (answers absent) turns 0 ≡ lookupOf (ask (quickHere doc c key))
     unfolding afterStrings lookupOf
     string-not-looked at turns e = to-strings (missed at turns) (ap toldHalving e)
 
-    pub string-broken : s ≡ Halving.Broken → lookup (refuses 20 c) 0 0 ≡ lookupOf (ask (quickLookup doc c key))
+    pub string-broken : s ≡ Halving.Broken → lookup (refuses 20 c) 0 0 ≡ lookupOf (ask (quickHere doc c key))
     unfolding afterStrings lookupOf
     string-broken e = to-strings broken (ap toldHalving e)
 
 pub ruleset look-laws = (found-within, string-looked, string-not-looked, string-broken, needs)
 
-module _ (doc : List ℕ) (c : ℕ) (key : List ℕ) (o : Object) (x : ObjectRead doc c o) where
-  pub lookup-stops : (r : Refusal) → o ≡ Object.Refused r → lookup (refuses (r .number) (r .place)) 0 0 ≡ lookupOf (ask (quickLookup doc c key))
-  unfolding quickLookup lookupOf
+module _ (doc : List ℕ) (a : Areas) (c : ℕ) (key : List ℕ) (o : Object) (x : ObjectRead doc a c o) where
+  pub lookup-stops : (r : Refusal) → o ≡ Object.Refused r → lookup (refuses (r .number) (r .place)) 0 0 ≡ lookupOf (ask (quickHere doc c key))
+  unfolding quickHere lookupOf
   lookup-stops r e = ap lookupOf (sym (stops _ _ tt (rw e at x)))
 
-  pub scan-stops : (r : Refusal) → o ≡ Object.Refused r → refuses (r .number) (r .place) ≡ ask (plainScan doc c key)
-  unfolding plainScan
+  pub scan-stops : (r : Refusal) → o ≡ Object.Refused r → refuses (r .number) (r .place) ≡ ask (scanHere doc c key)
+  unfolding scanHere
   scan-stops r e = sym (stops _ _ tt (rw e at x))
 
-pub ruleset lookup-laws = (object-of, lookup-stops, scan-stops, needs)
+pub ruleset here-laws = (object-of, lookup-stops, scan-stops, needs)
 
 -- ---- the plain scan
 
 -- the members from j on are all that is left
 pub record Scanning (doc : List ℕ) (c n : ℕ) (key : List ℕ) (j : ℕ) : Type 0 where
   pub upto : j ≤ n
-  pub same : ask (scanFrom doc c n key (n - j) j) ≡ ask (plainScan doc c key)
+  pub same : ask (scanFrom doc c n key (n - j) j) ≡ ask (scanHere doc c key)
 
 pub scan-first : (doc : List ℕ) (a : Areas) (c n : ℕ) (key : List ℕ) → ObjectAt doc a c n → Scanning doc c n key 0
-unfolding plainScan
+unfolding scanHere
 scan-first doc a c n key x = record { upto = omega arith; same = let z : n - 0 ≡ n = omega arith in rw z (sym (then _ _ tt (x .answered))) }
 
 scan-suc : (doc : List ℕ) (c n : ℕ) (key : List ℕ) (l j v : ℕ) → v ≡ word doc (c + 4 + 4 * j)
@@ -282,18 +285,18 @@ scan-suc doc c n key l j v e = rw e
 
 module _ (doc : List ℕ) (c n : ℕ) (key : List ℕ) (j : ℕ) (x : Scanning doc c n key j) where
   module _ (b : j < n) (v : ℕ) (e : v ≡ word doc (c + 4 + 4 * j)) (r : Matched) (h : TextMatched doc v key r) where
-    one-member : ask (textNamed doc v c >>= λ s. choose (isEqual (compareTexts (part doc (s .place) (s .len)) key)) (answer (entry (entryOf c n j))) (scanFrom doc c n key (n - (j + 1)) (j + 1))) ≡ ask (plainScan doc c key)
+    one-member : ask (textNamed doc v c >>= λ s. choose (isEqual (compareTexts (part doc (s .place) (s .len)) key)) (answer (entry (entryOf c n j))) (scanFrom doc c n key (n - (j + 1)) (j + 1))) ≡ ask (scanHere doc c key)
     one-member =
         let q : n - j ≡ suc (n - (j + 1)) = omega arith in
         sym (ap (λ l. ask (scanFrom doc c n key l j)) q ∙ scan-suc doc c n key (n - (j + 1)) j v e) ∙ x .same
 
-    pub scan-bad : r ≡ Matched.Bad → refuses 20 c ≡ ask (plainScan doc c key)
+    pub scan-bad : r ≡ Matched.Bad → refuses 20 c ≡ ask (scanHere doc c key)
     scan-bad q = sym (stops _ _ tt ((rw q at h) c)) ∙ one-member
 
-    chosen : (m : Bool) → Matches doc v key m → choose m (answer (entry (entryOf c n j))) (scanFrom doc c n key (n - (j + 1)) (j + 1)) tt ≡ ask (plainScan doc c key)
+    chosen : (m : Bool) → Matches doc v key m → choose m (answer (entry (entryOf c n j))) (scanFrom doc c n key (n - (j + 1)) (j + 1)) tt ≡ ask (scanHere doc c key)
     chosen m z = sym (then _ _ tt (z .1 c) ∙ rw (sym (z .2))) ∙ one-member
 
-    pub scan-found : r ≡ Matched.Same → answers (entry (c + 4 + 4 * n + 4 * j)) ≡ ask (plainScan doc c key)
+    pub scan-found : r ≡ Matched.Same → answers (entry (c + 4 + 4 * n + 4 * j)) ≡ ask (scanHere doc c key)
     unfolding choose
     scan-found q = chosen true (rw q at h)
 
@@ -301,8 +304,31 @@ module _ (doc : List ℕ) (c n : ℕ) (key : List ℕ) (j : ℕ) (x : Scanning d
     unfolding choose
     scan-next q = record { upto = omega arith; same = chosen false (rw q at h) }
 
-  pub scan-done : n ≤ j → answers absent ≡ ask (plainScan doc c key)
+  pub scan-done : n ≤ j → answers absent ≡ ask (scanHere doc c key)
   unfolding scanFrom
   scan-done h = let z : n - j ≡ 0 = let u = x .upto in omega arith in rw z at (x .same)
 
 pub ruleset scan-laws = (scan-first, scan-bad, scan-found, scan-next, scan-done, needs)
+
+-- ---- both, opened, and then what they ask
+
+module _ (doc : List ℕ) (c : ℕ) (key : List ℕ) (o : Asking) (x : Opens doc c o) where
+  module _ (r : Refusal) (e : o ≡ Asking.Refused r) where
+    pub lookup-closed : lookup (refuses (r .number) (r .place)) 0 0 ≡ lookupOf (ask (quickLookup doc c key))
+    unfolding quickLookup lookupOf
+    lookup-closed = ap lookupOf (opening-refused doc c _ o x r e)
+
+    pub scan-closed : refuses (r .number) (r .place) ≡ ask (plainScan doc c key)
+    unfolding plainScan
+    scan-closed = opening-refused doc c _ o x r e
+
+  module _ (a : Areas) (e : o ≡ Asking.Of a) where
+    pub lookup-opened : (s : Lookup) → s ≡ lookupOf (ask (quickHere doc c key)) → s ≡ lookupOf (ask (quickLookup doc c key))
+    unfolding quickLookup
+    lookup-opened s h = h ∙ ap lookupOf (opening-passed doc c _ o x a e)
+
+    pub scan-opened : (s : Asked Found) → s ≡ ask (scanHere doc c key) → s ≡ ask (plainScan doc c key)
+    unfolding plainScan
+    scan-opened s h = h ∙ opening-passed doc c _ o x a e
+
+pub ruleset lookup-laws = (open-laid, lookup-closed, scan-closed, lookup-opened, scan-opened, needs)

@@ -1,7 +1,9 @@
-// Looking a key up in an object: by halving, with both counts, and by a plain scan.
+// Looking a key up in an object: by halving, with both counts, and by a plain scan. What each does after its opening is a function of
+// its own (`.._here`), lent the areas that the opening found, for walks that open once.
 use binary_json_answers::Looked;
 use binary_json_answers::Scanned;
 use binary_json_areas::areas::Areas;
+use binary_json_areas::asking::Asking;
 use binary_json_areas::named::Texted;
 use binary_json_areas::offsets::SlotOffset;
 use binary_json_areas::offsets::TreeOffset;
@@ -14,7 +16,7 @@ ghost use lib.ListN.{length};
 ghost use Rattle.json.specs.Bytes.{part};
 ghost use Rattle.json.specs.Reading.{ask};
 ghost use Rattle.binary_json_rules.specs.Areas.{slot};
-ghost use Rattle.binary_json_rules.specs.Lookup.{strings, keys, afterKeys, quickLookup, lookupOf, plainScan};
+ghost use Rattle.binary_json_rules.specs.Lookup.{strings, keys, afterKeys, quickHere, quickLookup, lookupOf, scanHere, plainScan};
 ghost use Rattle.binary_json_areas.specs.Laid.{Laid};
 ghost use Rattle.binary_json_metas.specs.Objects.{ObjectAt};
 ghost use Rattle.binary_json_lookup.specs.Lookups.{TextMatched, toldItem, toldHalving, Within, stringItems};
@@ -138,7 +140,7 @@ fn look_key(doc: &[u8], a: Areas, c: usize, n: usize, k: usize, first: usize) ->
 
 fn look(doc: &[u8], a: Areas, c: usize, n: usize, key: &[u8]) -> Looked
     requires { ⌜ ObjectAt (now doc) a c n ⌝ }
-    ensures { λ r. ⌜ toldLookup r ≡ lookupOf (ask (quickLookup (now (doc .entry)) c (now (key .entry)))) ⌝ }
+    ensures { λ r. ⌜ toldLookup r ≡ lookupOf (ask (quickHere (now (doc .entry)) c (now (key .entry)))) ⌝ }
 {
     let s = find_string(doc, a, key);
     match s {
@@ -154,15 +156,25 @@ fn look(doc: &[u8], a: Areas, c: usize, n: usize, key: &[u8]) -> Looked
     }
 }
 
+pub fn quick_here(doc: &[u8], a: Areas, cursor: TreeOffset, key: &[u8]) -> Looked
+    requires { ⌜ Laid (now doc) a ⌝ }
+    ensures { λ r. ⌜ toldLookup r ≡ lookupOf (ask (quickHere (now (doc .entry)) (cursor .0) (now (key .entry)))) ⌝ }
+{
+    let m = binary_json_metas::object_here(doc, a, cursor);
+    match m {
+        Object::Refused(r) => Looked::Refused(r),
+        Object::Of(n) => look(doc, a, cursor.0, n, key),
+    }
+}
+
 // The quick lookup: the Entry of the member with a key, or absent, with the comparisons of both halvings; a refusal has 0 and 0.
 pub fn quick_lookup(doc: &[u8], cursor: TreeOffset, key: &[u8]) -> Looked
     ensures { λ r. ⌜ toldLookup r ≡ lookupOf (ask (quickLookup (now (doc .entry)) (cursor .0) (now (key .entry)))) ⌝ }
 {
-    let c = cursor.0;
-    let o = binary_json_metas::object_at(doc, c);
+    let o = binary_json_areas::asking::open(doc, cursor.0);
     match o {
-        Object::Refused(r) => Looked::Refused(r),
-        Object::Of(a, n) => look(doc, a, c, n, key),
+        Asking::Refused(r) => Looked::Refused(r),
+        Asking::Of(a) => quick_here(doc, a, cursor, key),
     }
 }
 
@@ -192,7 +204,7 @@ fn match_text(doc: &[u8], a: Areas, at: SlotOffset, key: &[u8]) -> Matched
 
 fn scan(doc: &[u8], a: Areas, c: usize, n: usize, key: &[u8]) -> Scanned
     requires { ⌜ ObjectAt (now doc) a c n ⌝ }
-    ensures { λ r. ⌜ toldScan r ≡ ask (plainScan (now (doc .entry)) c (now (key .entry))) ⌝ }
+    ensures { λ r. ⌜ toldScan r ≡ ask (scanHere (now (doc .entry)) c (now (key .entry))) ⌝ }
 {
     let mut j = 0;
     while j < n {
@@ -216,14 +228,24 @@ fn scan(doc: &[u8], a: Areas, c: usize, n: usize, key: &[u8]) -> Scanned
     Scanned::Absent
 }
 
+pub fn scan_here(doc: &[u8], a: Areas, cursor: TreeOffset, key: &[u8]) -> Scanned
+    requires { ⌜ Laid (now doc) a ⌝ }
+    ensures { λ r. ⌜ toldScan r ≡ ask (scanHere (now (doc .entry)) (cursor .0) (now (key .entry))) ⌝ }
+{
+    let m = binary_json_metas::object_here(doc, a, cursor);
+    match m {
+        Object::Refused(r) => Scanned::Refused(r),
+        Object::Of(n) => scan(doc, a, cursor.0, n, key),
+    }
+}
+
 // The plain scan: the Entry of the first member with a key, or absent.
 pub fn plain_scan(doc: &[u8], cursor: TreeOffset, key: &[u8]) -> Scanned
     ensures { λ r. ⌜ toldScan r ≡ ask (plainScan (now (doc .entry)) (cursor .0) (now (key .entry))) ⌝ }
 {
-    let c = cursor.0;
-    let o = binary_json_metas::object_at(doc, c);
+    let o = binary_json_areas::asking::open(doc, cursor.0);
     match o {
-        Object::Refused(r) => Scanned::Refused(r),
-        Object::Of(a, n) => scan(doc, a, c, n, key),
+        Asking::Refused(r) => Scanned::Refused(r),
+        Asking::Of(a) => scan_here(doc, a, cursor, key),
     }
 }

@@ -15,7 +15,7 @@ use Rattle.json.specs.Tree.{Tree, null, bool, num, str, arr, obj, Trees, Member
 use Rattle.json.proofs.Reading.{eq→eqb, past, then, stops, pass, fail, need-yes}
 use Rattle.binary_json_rules.specs.Areas.{word, low, high, index, count, slot, text, content, numbers, Kind, kArray, kObject, kScalar, kOther, kindOf, EntryType, tFalse, tTrue, tNull, tString, tNumber, tContainer, tOther, typeOf}
 use Rattle.binary_json_rules.specs.Meaning.{SlotIs, Meta, EntryIs, MembersAre, ContainerIs, Means}
-use Rattle.binary_json_rules.specs.Questions.{opening, treeWord, body, bodyWords, kindAndSize, element, object, keyEntryOf, entryOf, memberAt, slotRead, textNamed, slotText, slotBytes, entryType, containerAt, stringAt, numberAt}
+use Rattle.binary_json_rules.specs.Questions.{opening, treeWord, body, bodyWords, kindHere, kindAndSize, elementHere, element, objectHere, keyEntryOf, entryOf, memberHere, memberAt, slotRead, textNamed, slotText, slotBytes, typeHere, entryType, containerHere, containerAt, stringHere, stringAt, numberHere, numberAt}
 use Rattle.binary_json_rules.specs.Answers.{sized, sizedAs, typedAs}
 use Rattle.binary_json_rules.proofs.Complete.{slot-named, number-named, header-done}
 use Rattle.binary_json_rules.proofs.Trees.{slot-at}
@@ -122,7 +122,7 @@ module _ (doc : List ℕ) (t : Tree) (m : Means doc t) where
 
   kind-by : (c n w : ℕ) (k : Kind) → Known k → Meta doc c k n w → Aligned c → T (ltb (kindNumber k) 3) → bodyWords (kindNumber k) n ≡ w
       → ask (kindAndSize doc c) ≡ answers (sized (kindNumber k) n)
-  unfolding kindAndSize body
+  unfolding kindAndSize kindHere body
   kind-by c n w k o h z b e =
       let fits = h .inside in
       comes-to c _ z (omega arith) ∙ rw (kind-is doc c n w k o h, h .size-is, e) (pass _ _ _ _ tt b ∙ pass _ _ _ _ tt (le→leb _ _ fits))
@@ -140,7 +140,7 @@ module _ (doc : List ℕ) (t : Tree) (m : Means doc t) where
 
   elements : (c i n : ℕ) (k : Kind) → Known k → Meta doc c k n n → Aligned c → T (eqb (kindNumber k) 0 || eqb (kindNumber k) 2)
       → ask (element doc c i) ≡ ask (need (ltb i n) 22 c >>= λ _. answer (c + 4 + 4 * i))
-  unfolding element body
+  unfolding element elementHere body
   elements c i n k o h z b =
       let fits = h .inside in
       comes-to c _ z (omega arith) ∙ rw (kind-is doc c n n k o h, h .size-is) (pass _ _ _ _ tt b ∙ pass _ _ _ _ tt (le→leb _ _ fits))
@@ -152,7 +152,7 @@ module _ (doc : List ℕ) (t : Tree) (m : Means doc t) where
   element-past c i ts h z b = elements c i (size ts) kArray tt (h .0) z tt ∙ fail _ _ _ _ tt (past b)
 
   pub element-wrong : (c i : ℕ) (ms : Members) → ContainerIs doc (obj ms) c → Aligned c → ask (element doc c i) ≡ refuses 21 c
-  unfolding element
+  unfolding element elementHere
   element-wrong c i ms h z =
       let fits = h .0 .inside in
       comes-to c _ z (omega arith) ∙ rw (kind-is doc c _ _ kObject tt (h .0)) (fail _ _ _ _ tt (λ t. t))
@@ -171,11 +171,15 @@ module _ (doc : List ℕ) (t : Tree) (m : Means doc t) where
 
   -- ---- objects: member j, and what both lookups begin with
 
-  pub object-answer : (c : ℕ) (ms : Members) → ContainerIs doc (obj ms) c → Aligned c → ask (object doc c) ≡ answers (sizem ms)
-  unfolding object body
-  object-answer c ms h z =
+  object-here : (c : ℕ) (ms : Members) → ContainerIs doc (obj ms) c → Aligned c → ask (objectHere doc c) ≡ answers (sizem ms)
+  unfolding objectHere body
+  object-here c ms h z =
       let fits = h .0 .inside in
-      comes-to c _ z (omega arith) ∙ rw (kind-is doc c _ _ kObject tt (h .0), h .0 .size-is) (pass _ _ _ _ tt tt ∙ pass _ _ _ _ tt (le→leb _ _ fits))
+      then _ _ tt (word-in c c z (omega arith)) ∙ rw (kind-is doc c _ _ kObject tt (h .0), h .0 .size-is) (pass _ _ _ _ tt tt ∙ pass _ _ _ _ tt (le→leb _ _ fits))
+
+  pub object-answer : {A : Type 0} (c : ℕ) (ms : Members) (rest : ℕ → Reading (Unit {0}) A) → ContainerIs doc (obj ms) c → Aligned c
+      → ask (opening doc c >>= λ _. objectHere doc c >>= rest) ≡ ask (rest (sizem ms))
+  object-answer c ms rest h z = then _ _ tt (opens c) ∙ then _ _ tt (object-here c ms h z)
 
   other-kind : (c : ℕ) (u : Tree) → NoObject u → ContainerIs doc u c → T (eqb (low doc c) 1) → ⊥
   other-kind c null n h = rw (kind-is doc c 1 1 kScalar tt (h .0)) (λ t. t)
@@ -185,9 +189,13 @@ module _ (doc : List ℕ) (t : Tree) (m : Means doc t) where
   other-kind c (arr ts) n h = rw (kind-is doc c _ _ kArray tt (h .0)) (λ t. t)
   other-kind c (obj ms) n h = absurd (n ms refl)
 
-  pub object-wrong : (c : ℕ) (u : Tree) → NoObject u → ContainerIs doc u c → Aligned c → ask (object doc c) ≡ refuses 21 c
-  unfolding object
-  object-wrong c u n h z = comes-to c _ z (body-inside u c h) ∙ fail _ _ _ _ tt (other-kind c u n h)
+  wrong-here : (c : ℕ) (u : Tree) → NoObject u → ContainerIs doc u c → Aligned c → ask (objectHere doc c) ≡ refuses 21 c
+  unfolding objectHere
+  wrong-here c u n h z = then _ _ tt (word-in c c z (body-inside u c h)) ∙ fail _ _ _ _ tt (other-kind c u n h)
+
+  pub object-wrong : {A : Type 0} (c : ℕ) (u : Tree) (rest : ℕ → Reading (Unit {0}) A) → NoObject u → ContainerIs doc u c → Aligned c
+      → ask (opening doc c >>= λ _. objectHere doc c >>= rest) ≡ refuses 21 c
+  object-wrong c u rest n h z = then _ _ tt (opens c) ∙ stops _ _ tt (wrong-here c u n h z)
 
   -- KeyEntry j is the offset of the slot whose text is the key of member j
   pub key-slot : (ms : Members) (j p q a : ℕ) (x : List ℕ) (v : Tree) → MembersAre doc ms p q a → MemberIs ms j x v
@@ -202,18 +210,18 @@ module _ (doc : List ℕ) (t : Tree) (m : Means doc t) where
 
   pub member-answer : (c j : ℕ) (ms : Members) (x : List ℕ) (v : Tree) → ContainerIs doc (obj ms) c → Aligned c → j < sizem ms → MemberIs ms j x v
       → ask (memberAt doc c j) ≡ answers (record { slot = word doc (keyEntryOf c j); entry = entryOf c (sizem ms) j })
-  unfolding memberAt
+  unfolding memberAt memberHere
   member-answer c j ms x v h z b y =
       let (k, is, e) = key-slot ms j 0 (c + 4) (c + 4 + 4 * sizem ms) x v (h .1) y in
-      then _ _ tt (object-answer c ms h z) ∙ (pass _ _ _ _ tt (lt→ltb _ _ b) ∙ then _ _ tt (slot-named doc tt _ _ _ k is))
+      object-answer c ms _ h z ∙ (pass _ _ _ _ tt (lt→ltb _ _ b) ∙ then _ _ tt (slot-named doc tt _ _ _ k is))
 
   pub member-past : (c j : ℕ) (ms : Members) → ContainerIs doc (obj ms) c → Aligned c → sizem ms ≤ j → ask (memberAt doc c j) ≡ refuses 22 c
-  unfolding memberAt
-  member-past c j ms h z b = then _ _ tt (object-answer c ms h z) ∙ fail _ _ _ _ tt (past b)
+  unfolding memberAt memberHere
+  member-past c j ms h z b = object-answer c ms _ h z ∙ fail _ _ _ _ tt (past b)
 
   pub member-wrong : (c j : ℕ) (u : Tree) → NoObject u → ContainerIs doc u c → Aligned c → ask (memberAt doc c j) ≡ refuses 21 c
-  unfolding memberAt
-  member-wrong c j u n h z = stops _ _ tt (object-wrong c u n h z)
+  unfolding memberAt memberHere
+  member-wrong c j u n h z = object-wrong c u _ n h z
 
   -- ---- slots
 
@@ -256,7 +264,7 @@ module _ (doc : List ℕ) (t : Tree) (m : Means doc t) where
   known-type (obj ms) = tt
 
   pub type-answer : (a : ℕ) (v : Tree) → EntryIs doc v a → Aligned a → a + 4 ≤ index doc → ask (entryType doc a) ≡ answers (typedAs v)
-  unfolding entryType
+  unfolding entryType typeHere
   type-answer a v h z i = comes-to a _ z i ∙ rw (typed doc a v h) (pass _ _ _ _ tt (known-type v))
 
   -- the container of an Entry
@@ -270,7 +278,7 @@ module _ (doc : List ℕ) (t : Tree) (m : Means doc t) where
   container-named a (obj ms) n h = h
 
   pub container-answer : (a : ℕ) (v : Tree) → IsContainer v → EntryIs doc v a → Aligned a → a + 4 ≤ index doc → Aligned (high doc a) → ask (containerAt doc a) ≡ answers (high doc a)
-  unfolding containerAt
+  unfolding containerAt containerHere
   container-answer a v n h z i y =
       let (e, is) = container-named a v n h in
       comes-to a _ z i ∙ (pass _ _ _ _ tt (eq→eqb (type-is doc a tContainer tt e)) ∙ then _ _ tt (word-in (high doc a) a y (body-inside v (high doc a) is)))
@@ -286,13 +294,13 @@ module _ (doc : List ℕ) (t : Tree) (m : Means doc t) where
   no-container (obj ms) n t = n tt
 
   pub container-wrong : (a : ℕ) (v : Tree) → NoContainer v → EntryIs doc v a → Aligned a → a + 4 ≤ index doc → ask (containerAt doc a) ≡ refuses 21 a
-  unfolding containerAt
+  unfolding containerAt containerHere
   container-wrong a v n h z i = comes-to a _ z i ∙ rw (typed doc a v h) (fail _ _ _ _ tt (no-container v n))
 
   -- the string of an Entry
 
   pub string-answer : (a : ℕ) (s : List ℕ) (h : EntryIs doc (str s) a) → Aligned a → a + 4 ≤ index doc → ask (stringAt doc a) ≡ answers (spanOf (h .0))
-  unfolding stringAt
+  unfolding stringAt stringHere
   string-answer a s h z i = comes-to a _ z i ∙ (pass _ _ _ _ tt (eq→eqb (type-is doc a tString tt (h .1))) ∙ text-named (high doc a) (h .0) a (h .2))
 
   no-string : (v : Tree) → NoString v → T (eqb (typedAs v) 3) → ⊥
@@ -306,13 +314,13 @@ module _ (doc : List ℕ) (t : Tree) (m : Means doc t) where
   no-string (obj ms) n t = t
 
   pub string-wrong : (a : ℕ) (v : Tree) → NoString v → EntryIs doc v a → Aligned a → a + 4 ≤ index doc → ask (stringAt doc a) ≡ refuses 21 a
-  unfolding stringAt
+  unfolding stringAt stringHere
   string-wrong a v n h z i = comes-to a _ z i ∙ rw (typed doc a v h) (fail _ _ _ _ tt (no-string v n))
 
   -- the number of an Entry
 
   pub number-answer : (a : ℕ) (x : Bool) (n : ℕ) → EntryIs doc (num x n) a → Aligned a → a + 4 ≤ index doc → ask (numberAt doc a) ≡ answers (number doc (high doc a) 8)
-  unfolding numberAt
+  unfolding numberAt numberHere
   number-answer a x n h z i =
       comes-to a _ z i ∙ (pass _ _ _ _ tt (eq→eqb (type-is doc a tNumber tt (h .1))) ∙ then _ _ tt (number-named doc tt (high doc a) 20 a (h .0) (h .2) (h .3)))
 
@@ -327,5 +335,5 @@ module _ (doc : List ℕ) (t : Tree) (m : Means doc t) where
   no-number (obj ms) n t = t
 
   pub number-wrong : (a : ℕ) (v : Tree) → NoNumber v → EntryIs doc v a → Aligned a → a + 4 ≤ index doc → ask (numberAt doc a) ≡ refuses 21 a
-  unfolding numberAt
+  unfolding numberAt numberHere
   number-wrong a v n h z i = comes-to a _ z i ∙ rw (typed doc a v h) (fail _ _ _ _ tt (no-number v n))

@@ -12,7 +12,6 @@ use Rattle.json.specs.Number.{binary64, floatTree}
 use Rattle.json.specs.Span.{Span}
 use Rattle.json.specs.Texts.{compareNumbers}
 use Rattle.json.specs.Tree.{Tree, num, str, arr, obj, Trees, Members, size, sizem, ElementIs, MemberIs, Lacks, IsContainer, NoNumber, NoString, NoObject, NoContainer, Subtree}
-use Rattle.json.proofs.Reading.{stops}
 use Rattle.json.proofs.Tree.{element-below, member-below}
 use Rattle.binary_json_rules.specs.Areas.{word, high, count, slot, content}
 use Rattle.binary_json_rules.specs.Meaning.{EntryIs, ContainerIs, Means}
@@ -21,7 +20,7 @@ use Rattle.binary_json_rules.specs.TreeOf.{treeOf}
 use Rattle.binary_json_rules.specs.Leads.{EntryOf, Leads, named}
 use Rattle.binary_json_rules.specs.Questions.{kindAndSize, element, keyEntryOf, entryOf, memberAt, slotText, slotBytes, entryType, containerAt, stringAt, stringBytes, numberAt}
 use Rattle.binary_json_rules.specs.Halving.{digits, turnsOf, Halved, found, missed, broken}
-use Rattle.binary_json_rules.specs.Lookup.{Found, entry, absent, keyItem, keys, counted, quickLookup, contentItem, textHalving, keyTurns, plainScan}
+use Rattle.binary_json_rules.specs.Lookup.{Found, entry, absent, keyItem, keys, counted, quickHere, quickLookup, contentItem, textHalving, keyTurns, scanHere, plainScan}
 use Rattle.binary_json_rules.specs.Answers.{sizedAs, typedAs}
 use Rattle.binary_json_rules.proofs.Sound.{sound}
 use Rattle.binary_json_rules.proofs.Complete.{complete}
@@ -122,12 +121,12 @@ module _ (doc : List ℕ) (t : Tree) (m : Means doc t) where
 
     -- lookups asked of anything but an object
     pub quick-lookup-of-other : (u : Tree) (x : List ℕ) → NoObject u → ContainerIs doc u c → ask (quickLookup doc c x) ≡ refuses 21 c
-    unfolding quickLookup
-    quick-lookup-of-other u x n h = stops _ _ tt (Answers.object-wrong doc t m c u n h aligned)
+    unfolding quickLookup quickHere
+    quick-lookup-of-other u x n h = Answers.object-wrong doc t m c u _ n h aligned
 
     pub plain-scan-of-other : (u : Tree) (x : List ℕ) → NoObject u → ContainerIs doc u c → ask (plainScan doc c x) ≡ refuses 21 c
-    unfolding plainScan
-    plain-scan-of-other u x n h = stops _ _ tt (Answers.object-wrong doc t m c u n h aligned)
+    unfolding plainScan scanHere
+    plain-scan-of-other u x n h = Answers.object-wrong doc t m c u _ n h aligned
 
     -- ---- At an Entry of it:
 

@@ -1,6 +1,7 @@
 -- Examples that hold each number and place of refusal, and each question's answers, to what document 01 says. They are
 -- computed from the definitions, so that no rule can be changed unnoticed where the theorems leave its number or place open.
-use Prim.Native.Nat.{ℕ, zero, suc, _+_, _-_, _*_, _<_}
+use Prim.Native.Nat.{ℕ, zero, suc, _+_, _-_, _*_, _^_, _<_}
+use mathlib.Core.Bool.{true, false}
 use mathlib.Core.List.{List, [], _∷_, _++_, map, reverse}
 use mathlib.Core.Path.{_≡_, refl, _∙_}
 use native.Mathlib.Omega.{arith}
@@ -9,15 +10,18 @@ use lib.ListN.{length}
 use Rattle.json.specs.Bytes.{number, hex}
 use Rattle.json.specs.Choose.{choose}
 use Rattle.json.specs.Limits.{longest, deepest}
-use Rattle.json.specs.Number.{finite}
-use Rattle.json.specs.Reading.{Asked, ask, answers, refuses, follow, _>>=_, need}
+use Rattle.json.specs.Node.{sNull, sBool, sNum, sStr, leaf, list, dict, nil, cons, last, field}
+use Rattle.json.specs.Number.{finite, magnitude, floatTree}
+use Rattle.json.specs.Reading.{Reading, Asked, ask, answers, refuses, follow, _>>=_, need}
 use Rattle.json.specs.Texts.{byNumbers, compareTexts}
 use Rattle.json.proofs.Reading.{stops, pass, fail}
 use Rattle.binary_json_rules.specs.Areas.{index, count, slot, text, content, numbers, kindOf, typeOf}
 use Rattle.binary_json_rules.specs.Verdict.{header, ascends, slotRules, slots, slotNamed, numberNamed, keyEntries, entryBy, entry, entries, containerBy, container, scalar, rootBy, check, verdict}
-use Rattle.binary_json_rules.specs.Questions.{opening, treeWord, body, bodyWords, kindAndSize, element, object, memberAt, slotRead, textNamed, slotText, entryType, containerAt, stringAt, numberAt}
+use Rattle.binary_json_rules.specs.TreeOf.{entryTreeBy, entryTree, entryTrees, memberTrees, containerTreeBy, containerTree, treeOf}
+use Rattle.binary_json_rules.specs.Places.{entryNode, entryNodes, fieldNodes, containerNode, binaryNode}
+use Rattle.binary_json_rules.specs.Questions.{opening, treeWord, body, bodyWords, kindHere, kindAndSize, elementHere, element, objectHere, memberHere, memberAt, slotRead, textNamed, slotText, typeHere, entryType, containerHere, containerAt, stringHere, stringAt, numberHere, numberAt}
 use Rattle.binary_json_rules.specs.Halving.{turn, halveIf, halveFrom, halve}
-use Rattle.binary_json_rules.specs.Lookup.{absent, counted, afterKeys, afterStrings, quickLookup, lookup, lookupOf, scanFrom, plainScan}
+use Rattle.binary_json_rules.specs.Lookup.{absent, counted, afterKeys, afterStrings, quickHere, quickLookup, lookup, lookupOf, scanFrom, scanHere, plainScan}
 use Rattle.binary_json_rules.specs.Lookup as Lookup
 use Rattle.binary_json_rules.specs.Answers.{sized}
 
@@ -121,11 +125,20 @@ too-long doc h =
 
 -- ---- the questions
 
+-- a question that opens the document at its cursor: 11 bytes are 1 at 11, and texts that end before the slots do are 20 at the cursor
+abbrev Opens : {A : Type 0} → (List ℕ → ℕ → Reading (Unit {0}) A) → Type 0
+Opens question = (ask (question (hex 11 0x0101000000000000000000) 4) ≡ refuses 1 11) × (ask (question (hex 16 0x01010000000000000100000080000000) 7) ≡ refuses 20 7)
+
+-- each of them does
+pub openings-say :
+    Opens kindAndSize × Opens (λ doc c. element doc c 0) × Opens (λ doc c. memberAt doc c 0) × Opens slotText × Opens entryType × Opens containerAt × Opens stringAt × Opens numberAt
+    × Opens (λ doc c. quickLookup doc c []) × Opens (λ doc c. plainScan doc c [])
+unfolding need _>>=_ follow number index count slot text numbers header opening kindAndSize element memberAt slotText entryType containerAt stringAt numberAt quickLookup plainScan
+openings-say = ((refl, refl), (refl, refl), (refl, refl), (refl, refl), (refl, refl), (refl, refl), (refl, refl), (refl, refl), (refl, refl), (refl, refl))
+
 pub questions-say :
     -- 1 to 4 keep their places; then 20 at the cursor unless S+4+4C ≤ N ≤ length
-    (ask (kindAndSize (hex 11 0x0101000000000000000000) 4) ≡ refuses 1 11)
-    × (ask (kindAndSize (hex 12 0x010100000000000001000000) 4) ≡ refuses 4 8)
-    × (ask (kindAndSize (hex 16 0x01010000000000000100000080000000) 7) ≡ refuses 20 7)
+    (ask (kindAndSize (hex 12 0x010100000000000001000000) 4) ≡ refuses 4 8)
     × (ask (kindAndSize (hex 16 0x01010000000000000100000080000000) 4) ≡ refuses 20 4)
     × (ask (kindAndSize (hex 16 0x01010000000000000100000020020000) 4) ≡ refuses 20 4)
     -- words of the tree stand at 4, 8, .. S-4
@@ -215,5 +228,21 @@ pub questions-say :
     -- asked of an array
     × (lookupOf (ask (quickLookup (hex 12 0x010100000000000000000000) 4 (97 ∷ []))) ≡ lookup (refuses 21 4) 0 0)
     × (ask (plainScan (hex 12 0x010100000000000000000000) 4 (97 ∷ [])) ≡ refuses 21 4)
-unfolding need _>>=_ follow choose number finite byNumbers compareTexts index count slot text content numbers header slotNamed numberNamed opening treeWord body bodyWords kindAndSize element object memberAt slotRead textNamed slotText entryType containerAt stringAt numberAt turn halveIf halveFrom halve afterKeys afterStrings quickLookup lookupOf scanFrom plainScan
-questions-say = (refl, refl, refl, refl, refl, refl, refl, refl, refl, refl, refl, refl, refl, refl, refl, refl, refl, refl, refl, refl, refl, refl, refl, refl, refl, refl, refl, refl, refl, refl, refl, refl, refl, refl, refl, refl, refl, refl, refl, refl, refl, refl, refl, refl, refl, refl, refl, refl, refl, refl, refl, refl, refl, refl, refl, refl, refl, refl, refl, refl, refl, refl, refl, refl, refl, refl, refl, refl, refl, refl, refl, refl, refl, refl, refl, refl, refl, refl, refl, refl, refl)
+unfolding need _>>=_ follow choose number finite byNumbers compareTexts index count slot text content numbers header slotNamed numberNamed opening treeWord body bodyWords kindHere kindAndSize elementHere element objectHere memberHere memberAt slotRead textNamed slotText typeHere entryType containerHere containerAt stringHere stringAt numberHere numberAt turn halveIf halveFrom halve afterKeys afterStrings quickHere quickLookup lookupOf scanFrom scanHere plainScan
+questions-say = (refl, refl, refl, refl, refl, refl, refl, refl, refl, refl, refl, refl, refl, refl, refl, refl, refl, refl, refl, refl, refl, refl, refl, refl, refl, refl, refl, refl, refl, refl, refl, refl, refl, refl, refl, refl, refl, refl, refl, refl, refl, refl, refl, refl, refl, refl, refl, refl, refl, refl, refl, refl, refl, refl, refl, refl, refl, refl, refl, refl, refl, refl, refl, refl, refl, refl, refl, refl, refl, refl, refl, refl, refl, refl, refl, refl, refl, refl, refl)
+
+-- ---- the tree with places
+
+pub places-say :
+    -- a scalar alone stands at its Entry
+    (binaryNode (hex 16 0x81010000220000000200000000000000) ≡ leaf 8 sNull) × (binaryNode (hex 16 0x81010000220000000100000000000000) ≡ leaf 8 (sBool true))
+    × (binaryNode (hex 24 0x81010000220000000402000000000000000000000000F03F) ≡ leaf 8 (sNum false (2 ^ 1074)))
+    × (binaryNode (hex 22 0x81010000220000000302000001000000C00200006100) ≡ leaf 8 (sStr (97 ∷ [])))
+    -- in an array scalars stand at their Entries, and an array at its Meta
+    × (binaryNode (hex 28 0x01030000600000000200000085020000020000000000000000000000) ≡ list 4 (cons (leaf 8 sNull) (cons (list 20 nil) (cons (leaf 16 sNull) nil))))
+    × (binaryNode (hex 28 0x01030000200000008501000040000000020000000000000000000000) ≡ list 4 (cons (list 12 (cons (leaf 16 sNull) (cons (leaf 20 (sBool false)) nil))) nil))
+    -- {"a":{"a":[],"b":1.0},"b":"b"}: keys stand at their KeyEntries, and an object at its Meta
+    × (binaryNode (hex 72 0x01060000410000003400000038000000050300000307000041000000340000003800000085050000040800000000000002000000C00700000008000061006200000000000000F03F)
+    ≡ dict 4 (field 8 (97 ∷ []) (dict 24 (field 28 (97 ∷ []) (list 44 nil) (field 32 (98 ∷ []) (leaf 40 (sNum false (2 ^ 1074))) last))) (field 12 (98 ∷ []) (leaf 20 (sStr (98 ∷ []))) last)))
+unfolding number index count slot text content kindOf typeOf magnitude floatTree entryTreeBy entryTree entryTrees memberTrees containerTreeBy containerTree treeOf entryNode entryNodes fieldNodes containerNode binaryNode
+places-say = (refl, refl, refl, refl, refl, refl, refl)

@@ -7,4 +7,6 @@ pub mod Answers
 pub mod Halves
 pub mod Lookups
 pub mod Demands
+pub mod Places
+pub mod Opened
 pub mod Examples

@@ -19,7 +19,7 @@ use Rattle.binary_json_rules.specs.Areas.{word, count, slot, content}
 use Rattle.binary_json_rules.specs.Meaning.{SlotIs, MembersAre, ContainerIs, Means}
 use Rattle.binary_json_rules.specs.Questions.{keyEntryOf, entryOf}
 use Rattle.binary_json_rules.specs.Halving.{Item, compares, Halved, found, missed, broken, turnsOf}
-use Rattle.binary_json_rules.specs.Lookup.{Found, entry, absent, strings, keys, Counted, counted, afterKeys, afterStrings, quickLookup, contentItem, textHalving, keyItem, keyTurns, scanFrom, plainScan}
+use Rattle.binary_json_rules.specs.Lookup.{Found, entry, absent, strings, keys, Counted, counted, afterKeys, afterStrings, quickHere, quickLookup, contentItem, textHalving, keyItem, keyTurns, scanFrom, scanHere, plainScan}
 use Rattle.binary_json_rules.proofs.Nodes.{Aligned}
 use Rattle.binary_json_rules.proofs.Answers.{key-slot, slot-read, text-named, span-content, object-answer}
 use Rattle.binary_json_rules.proofs.Halves.{compares-inj, Sorted, Ended, halving-ends, halving-same}
@@ -186,10 +186,10 @@ module _ (doc : List ℕ) (t : Tree) (m : Means doc t) where
     after-strings x broken h = absurd h
 
     pub quick-right : Aligned c → (x : List ℕ) → Quick x (ask (quickLookup doc c x)) (turnsOf (textHalving doc x)) (keyTurns doc c n (textHalving doc x))
-    unfolding quickLookup
+    unfolding quickLookup quickHere
     quick-right z x =
         let q = after-strings x (textHalving doc x) (halving-ends (contentItem doc x) (count doc) (strings-sorted x)) in
-        record { found-is = q .found-is; right = q .right; same = then _ _ tt (object-answer doc t m c ms is z) ∙ rw (strings-halve x) (q .same) }
+        record { found-is = q .found-is; right = q .right; same = object-answer doc t m c ms _ is z ∙ rw (strings-halve x) (q .same) }
 
     -- ---- the plain scan
 
@@ -225,14 +225,14 @@ module _ (doc : List ℕ) (t : Tree) (m : Means doc t) where
             subst (λ (y : Outcome (Unit {0}) Found). Scanned (member k v rest) i x y) (sym (read ∙ rw q)) (scan-later k x v rest i _ d r)
 
     pub scan-right : Aligned c → (x : List ℕ) → (r : Found) × Right x r × (ask (plainScan doc c x) ≡ answers r)
-    unfolding plainScan
+    unfolding plainScan scanHere
     scan-right z x = go (scans ms 0 0 (c + 4 + 4 * n) x (rw first (is .1)))
       where
         first : c + 4 + 4 * 0 ≡ c + 4
         first = omega arith
 
         come : ask (plainScan doc c x) ≡ ask (scanFrom doc c n x n 0)
-        come = then _ _ tt (object-answer doc t m c ms is z)
+        come = object-answer doc t m c ms _ is z
 
         go : Scanned ms 0 x (ask (scanFrom doc c n x n 0)) → (r : Found) × Right x r × (ask (plainScan doc c x) ≡ answers r)
         go (first-has j v y e) = let w : 0 + j ≡ j = omega arith in (entry (entryOf c n j), has j v y refl, come ∙ rw w at e)

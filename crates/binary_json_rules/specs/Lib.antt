@@ -3,6 +3,7 @@ pub mod Meaning
 pub mod Verdict
 pub mod TreeOf
 pub mod Leads
+pub mod Places
 pub mod Questions
 pub mod Halving
 pub mod Lookup

@@ -9,7 +9,7 @@ use Rattle.json.specs.Bytes.{part}
 use Rattle.json.specs.Span.{Span}
 use Rattle.json.specs.Texts.{compareNumbers, compareTexts, isEqual}
 use Rattle.binary_json_rules.specs.Areas.{word, count, slot, content}
-use Rattle.binary_json_rules.specs.Questions.{object, keyEntryOf, entryOf, slotRead, textNamed}
+use Rattle.binary_json_rules.specs.Questions.{opening, objectHere, keyEntryOf, entryOf, slotRead, textNamed}
 use Rattle.binary_json_rules.specs.Halving.{Item, compares, unreadable, Halved, found, missed, broken, turnsOf, halve}
 
 -- the Entry of the member with the key, or absent
@@ -52,10 +52,13 @@ afterStrings doc c n (found k first) = afterKeys c n first (keys doc c n (slot d
 afterStrings doc c n (missed k first) = answer (counted absent first 0)
 afterStrings doc c n broken = refuse 20 c
 
-unfoldable pub quickLookup : {S : Type 0} → List ℕ → ℕ → List ℕ → Reading S Counted
-quickLookup doc c x = do
-  n ← object doc c
+unfoldable pub quickHere : {S : Type 0} → List ℕ → ℕ → List ℕ → Reading S Counted
+quickHere doc c x = do
+  n ← objectHere doc c
   afterStrings doc c n (strings doc x)
+
+unfoldable pub quickLookup : {S : Type 0} → List ℕ → ℕ → List ℕ → Reading S Counted
+quickLookup doc c x = opening doc c >> quickHere doc c x
 
 -- "It answers the Entry offset or absent, and both counts; a refusal has 0 and 0."
 pub record Lookup : Type 0 where
@@ -94,7 +97,10 @@ scanFrom doc c n x (suc left) j = do
   s ← textNamed doc (word doc (keyEntryOf c j)) c
   choose (isEqual (compareTexts (part doc (s .place) (s .len)) x)) (answer (entry (entryOf c n j))) (scanFrom doc c n x left (j + 1))
 
-unfoldable pub plainScan : {S : Type 0} → List ℕ → ℕ → List ℕ → Reading S Found
-plainScan doc c x = do
-  n ← object doc c
+unfoldable pub scanHere : {S : Type 0} → List ℕ → ℕ → List ℕ → Reading S Found
+scanHere doc c x = do
+  n ← objectHere doc c
   scanFrom doc c n x n 0
+
+unfoldable pub plainScan : {S : Type 0} → List ℕ → ℕ → List ℕ → Reading S Found
+plainScan doc c x = opening doc c >> scanHere doc c x

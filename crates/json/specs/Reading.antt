@@ -29,6 +29,7 @@ infixl 20 _>>=_
 unfoldable pub _>>=_ : {S A B : Type 0} → Reading S A → (A → Reading S B) → Reading S B
 _>>=_ first next = λ s. follow (first s) next
 
+infixl 20 _>>_
 abbrev pub _>>_ : {S B : Type 0} → Reading S (Unit {0}) → Reading S B → Reading S B
 _>>_ first next = first >>= λ _. next
 

@@ -24,5 +24,5 @@ unfolding follow _>>=_ need choose number finite magnitude floatTree wholeTree s
 specimens-hold = refl
 
 pub lookups-hold : (BL.lookupOf (ask (BL.quickLookup aTrue 4 keyA)) ≡ lookupA) × (BL.lookupOf (ask (BL.quickLookup aTrue 4 keyB)) ≡ lookupB)
-unfolding follow _>>=_ need choose number byNumbers compareTexts B.index B.count B.slot B.text B.numbers BV.header BQ.opening BQ.treeWord BQ.body BQ.object BQ.slotRead BH.turn BH.halveIf BH.halveFrom BH.halve BL.afterKeys BL.afterStrings BL.quickLookup BL.lookupOf
+unfolding follow _>>=_ need choose number byNumbers compareTexts B.index B.count B.slot B.text B.numbers BV.header BQ.opening BQ.treeWord BQ.body BQ.objectHere BQ.slotRead BH.turn BH.halveIf BH.halveFrom BH.halve BL.afterKeys BL.afterStrings BL.quickHere BL.quickLookup BL.lookupOf
 lookups-hold = (refl, refl)

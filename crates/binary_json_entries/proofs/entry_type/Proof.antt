@@ -3,25 +3,25 @@ use borrow.Author.Needs.{needs}
 use Rattle.binary_json_entries.proofs.entry_type.Statement.{statement}
 use Rattle.binary_json_entries.proofs.entry_type.Tie as tie
 
-place-requires : tie.Need-place-requires
-place-requires c κs = search needs
+open-requires : tie.Need-open-requires
+open-requires c κs = search needs
 
-enum-known-p : tie.Need-enum-known-p
-enum-known-p c = search needs
+enum-known-o : tie.Need-enum-known-o
+enum-known-o c = search needs
 
-enum-known-p-2 : tie.Need-enum-known-p-2
-enum-known-p-2 c = search needs
+enum-known-o-2 : tie.Need-enum-known-o-2
+enum-known-o-2 c = search needs
 
-type-at-requires : tie.Need-type-at-requires
-type-at-requires c κs = search type-laws
+type-here-requires : tie.Need-type-here-requires
+type-here-requires c κs = search type-laws
 
 returns : tie.Need-returns
 returns c = search type-laws
 
 returns-2 : tie.Need-returns-2
-returns-2 c = search needs
+returns-2 c = search type-laws
 
 pub entry-type-spec : {M : Type 1} → statement M
 entry-type-spec =
     tie.close
-    (tie.spec place-requires enum-known-p enum-known-p-2 type-at-requires returns returns-2)
+    (tie.spec open-requires enum-known-o enum-known-o-2 type-here-requires returns returns-2)

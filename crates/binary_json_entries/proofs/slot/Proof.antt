@@ -12,14 +12,8 @@ enum-known-o c = search needs
 enum-known-o-2 : tie.Need-enum-known-o-2
 enum-known-o-2 c = search needs
 
-text-named-requires : tie.Need-text-named-requires
-text-named-requires c κs = search slot-laws
-
-enum-known-t : tie.Need-enum-known-t
-enum-known-t c = search needs
-
-enum-told : tie.Need-enum-told
-enum-told c = search needs
+slot-here-requires : tie.Need-slot-here-requires
+slot-here-requires c κs = search slot-laws
 
 returns : tie.Need-returns
 returns c = search slot-laws
@@ -27,19 +21,7 @@ returns c = search slot-laws
 returns-2 : tie.Need-returns-2
 returns-2 c = search slot-laws
 
-returns-3 : tie.Need-returns-3
-returns-3 c = search slot-laws
-
 pub slot-spec : {M : Type 1} → statement M
 slot-spec =
     tie.close
-    (tie.spec
-    open-requires
-    enum-known-o
-    enum-known-o-2
-    text-named-requires
-    enum-known-t
-    enum-told
-    returns
-    returns-2
-    returns-3)
+    (tie.spec open-requires enum-known-o enum-known-o-2 slot-here-requires returns returns-2)

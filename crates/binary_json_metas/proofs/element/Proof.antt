@@ -3,25 +3,25 @@ use borrow.Author.Needs.{needs}
 use Rattle.binary_json_metas.proofs.element.Statement.{statement}
 use Rattle.binary_json_metas.proofs.element.Tie as tie
 
-place-requires : tie.Need-place-requires
-place-requires c κs = search needs
+open-requires : tie.Need-open-requires
+open-requires c κs = search needs
 
-enum-known-p : tie.Need-enum-known-p
-enum-known-p c = search needs
+enum-known-o : tie.Need-enum-known-o
+enum-known-o c = search needs
 
-enum-known-p-2 : tie.Need-enum-known-p-2
-enum-known-p-2 c = search needs
+enum-known-o-2 : tie.Need-enum-known-o-2
+enum-known-o-2 c = search needs
 
-element-at-requires : tie.Need-element-at-requires
-element-at-requires c κs = search element-laws
+element-here-requires : tie.Need-element-here-requires
+element-here-requires c κs = search element-laws
 
 returns : tie.Need-returns
 returns c = search element-laws
 
 returns-2 : tie.Need-returns-2
-returns-2 c = search needs
+returns-2 c = search element-laws
 
 pub element-spec : {M : Type 1} → statement M
 element-spec =
     tie.close
-    (tie.spec place-requires enum-known-p enum-known-p-2 element-at-requires returns returns-2)
+    (tie.spec open-requires enum-known-o enum-known-o-2 element-here-requires returns returns-2)

@@ -3,25 +3,25 @@ use borrow.Author.Needs.{needs}
 use Rattle.binary_json_metas.proofs.kind_and_size.Statement.{statement}
 use Rattle.binary_json_metas.proofs.kind_and_size.Tie as tie
 
-place-requires : tie.Need-place-requires
-place-requires c κs = search needs
+open-requires : tie.Need-open-requires
+open-requires c κs = search needs
 
-enum-known-p : tie.Need-enum-known-p
-enum-known-p c = search needs
+enum-known-o : tie.Need-enum-known-o
+enum-known-o c = search needs
 
-enum-known-p-2 : tie.Need-enum-known-p-2
-enum-known-p-2 c = search needs
+enum-known-o-2 : tie.Need-enum-known-o-2
+enum-known-o-2 c = search needs
 
-measure-requires : tie.Need-measure-requires
-measure-requires c κs = search kind-laws
+kind-here-requires : tie.Need-kind-here-requires
+kind-here-requires c κs = search kind-laws
 
 returns : tie.Need-returns
 returns c = search kind-laws
 
 returns-2 : tie.Need-returns-2
-returns-2 c = search needs
+returns-2 c = search kind-laws
 
 pub kind-and-size-spec : {M : Type 1} → statement M
 kind-and-size-spec =
     tie.close
-    (tie.spec place-requires enum-known-p enum-known-p-2 measure-requires returns returns-2)
+    (tie.spec open-requires enum-known-o enum-known-o-2 kind-here-requires returns returns-2)

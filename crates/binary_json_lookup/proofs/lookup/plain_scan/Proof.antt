@@ -3,8 +3,8 @@ use borrow.Author.Needs.{needs}
 use Rattle.binary_json_lookup.proofs.lookup.plain_scan.Statement.{statement}
 use Rattle.binary_json_lookup.proofs.lookup.plain_scan.Tie as tie
 
-object-at-requires : tie.Need-object-at-requires
-object-at-requires c κs = search needs
+open-requires : tie.Need-open-requires
+open-requires c κs = search needs
 
 enum-known-o : tie.Need-enum-known-o
 enum-known-o c = search needs
@@ -12,16 +12,16 @@ enum-known-o c = search needs
 enum-known-o-2 : tie.Need-enum-known-o-2
 enum-known-o-2 c = search needs
 
-scan-requires : tie.Need-scan-requires
-scan-requires c κs = search lookup-laws
+scan-here-requires : tie.Need-scan-here-requires
+scan-here-requires c κs = search lookup-laws
 
 returns : tie.Need-returns
 returns c = search lookup-laws
 
 returns-2 : tie.Need-returns-2
-returns-2 c = search needs
+returns-2 c = search lookup-laws
 
 pub plain-scan-spec : {M : Type 1} → statement M
 plain-scan-spec =
     tie.close
-    (tie.spec object-at-requires enum-known-o enum-known-o-2 scan-requires returns returns-2)
+    (tie.spec open-requires enum-known-o enum-known-o-2 scan-here-requires returns returns-2)

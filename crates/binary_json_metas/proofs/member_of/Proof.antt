@@ -1,10 +1,10 @@
-use Rattle.binary_json_metas.proofs.Metas.{member-laws}
+use Rattle.binary_json_metas.proofs.Metas.{member-here-laws}
 use borrow.Author.Needs.{needs}
-use Rattle.binary_json_metas.proofs.member_at.Statement.{statement}
-use Rattle.binary_json_metas.proofs.member_at.Tie as tie
+use Rattle.binary_json_metas.proofs.member_of.Statement.{statement}
+use Rattle.binary_json_metas.proofs.member_of.Tie as tie
 
 returns : tie.Need-returns
-returns c = search member-laws
+returns c = search member-here-laws
 
 add-word-at : tie.Need-add-word-at
 add-word-at c = search needs
@@ -37,13 +37,13 @@ add-t19 : tie.Need-add-t19
 add-t19 c = search needs
 
 returns-2 : tie.Need-returns-2
-returns-2 c = search member-laws
+returns-2 c = search member-here-laws
 
 returns-3 : tie.Need-returns-3
-returns-3 c = search member-laws
+returns-3 c = search member-here-laws
 
-pub member-at-spec : {M : Type 1} → statement M
-member-at-spec =
+pub member-of-spec : {M : Type 1} → statement M
+member-of-spec =
     tie.close
     (tie.spec
     returns
