@@ -22,6 +22,7 @@ ghost use Rattle.binary_json_answers.specs.Told.{SpanInside, toldTree, toldType
 
 // ---- at an Entry
 
+// The type of the Entry at the cursor, after the opening.
 pub fn type_here(doc: &[u8], a: Areas, cursor: TreeOffset) -> Typed
     requires { ⌜ Laid (now doc) a ⌝ }
     ensures { λ r. ⌜ toldType r ≡ ask (typeHere (now (doc .entry)) (cursor .0)) ⌝ }
@@ -68,6 +69,7 @@ pub fn entry_type(doc: &[u8], cursor: TreeOffset) -> Typed
     }
 }
 
+// The container that the Entry at the cursor names, after the opening.
 pub fn container_here(doc: &[u8], a: Areas, cursor: TreeOffset) -> TreeAt
     requires { ⌜ Laid (now doc) a ⌝ }
     ensures { λ r. ⌜ toldTree r ≡ ask (containerHere (now (doc .entry)) (cursor .0)) ⌝ }
@@ -106,6 +108,7 @@ pub fn container(doc: &[u8], cursor: TreeOffset) -> TreeAt
     }
 }
 
+// The number of the Entry at the cursor, after the opening.
 pub fn number_here(doc: &[u8], a: Areas, cursor: TreeOffset) -> Bits
     requires { ⌜ Laid (now doc) a ⌝ }
     ensures { λ r. ⌜ toldBits r ≡ ask (numberHere (now (doc .entry)) (cursor .0)) ⌝ }
@@ -148,6 +151,7 @@ pub fn number(doc: &[u8], cursor: TreeOffset) -> Bits
     }
 }
 
+// The string of the Entry at the cursor, after the opening.
 pub fn string_here(doc: &[u8], a: Areas, cursor: TreeOffset) -> Span
     requires { ⌜ Laid (now doc) a ⌝ }
     ensures { λ r. ⌜ toldSpan r ≡ ask (stringHere (now (doc .entry)) (cursor .0)) ⌝ }
@@ -207,6 +211,7 @@ pub fn string_text(doc: &[u8], cursor: TreeOffset) -> &[u8]
 
 // ---- at a slot
 
+// The text of the slot at the cursor, after the opening.
 pub fn slot_here(doc: &[u8], a: Areas, cursor: SlotOffset) -> Span
     requires { ⌜ Laid (now doc) a ⌝ }
     ensures { λ r. ⌜ toldSpan r ≡ ask (textNamed (now (doc .entry)) (cursor .0) (cursor .0)) ⌝ }

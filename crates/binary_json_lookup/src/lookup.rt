@@ -156,6 +156,7 @@ fn look(doc: &[u8], a: Areas, c: usize, n: usize, key: &[u8]) -> Looked
     }
 }
 
+// The quick lookup after the opening.
 pub fn quick_here(doc: &[u8], a: Areas, cursor: TreeOffset, key: &[u8]) -> Looked
     requires { ⌜ Laid (now doc) a ⌝ }
     ensures { λ r. ⌜ toldLookup r ≡ lookupOf (ask (quickHere (now (doc .entry)) (cursor .0) (now (key .entry)))) ⌝ }
@@ -228,6 +229,7 @@ fn scan(doc: &[u8], a: Areas, c: usize, n: usize, key: &[u8]) -> Scanned
     Scanned::Absent
 }
 
+// The plain scan after the opening.
 pub fn scan_here(doc: &[u8], a: Areas, cursor: TreeOffset, key: &[u8]) -> Scanned
     requires { ⌜ Laid (now doc) a ⌝ }
     ensures { λ r. ⌜ toldScan r ≡ ask (scanHere (now (doc .entry)) (cursor .0) (now (key .entry))) ⌝ }

@@ -16,8 +16,7 @@ ghost use Rattle.binary_json_areas.specs.Laid.{Laid};
 ghost use Rattle.binary_json_answers.specs.Told.{toldSized, toldTree, toldMember};
 ghost use Rattle.binary_json_metas.specs.Objects.{ObjectAt, ObjectRead};
 
-// ---- kind and size
-
+// The kind and the size of the container at the cursor, after the opening.
 pub fn kind_here(doc: &[u8], a: Areas, cursor: TreeOffset) -> Sized
     requires { ⌜ Laid (now doc) a ⌝ }
     ensures { λ r. ⌜ toldSized r ≡ ask (kindHere (now (doc .entry)) (cursor .0)) ⌝ }
@@ -67,8 +66,7 @@ pub fn kind_and_size(doc: &[u8], cursor: TreeOffset) -> Sized
     }
 }
 
-// ---- element i
-
+// Element i of the array or top-level scalar at the cursor, after the opening.
 pub fn element_here(doc: &[u8], a: Areas, cursor: TreeOffset, i: usize) -> TreeAt
     requires { ⌜ Laid (now doc) a ⌝ }
     ensures { λ r. ⌜ toldTree r ≡ ask (elementHere (now (doc .entry)) (cursor .0) i) ⌝ }
@@ -118,15 +116,13 @@ pub fn element(doc: &[u8], cursor: TreeOffset, i: usize) -> TreeAt
     }
 }
 
-// ---- member j
-
 // An object's size, or why it is refused.
 pub enum Object {
     Of(usize),
     Refused(Refusal),
 }
 
-// What member j and both lookups begin with, after the opening: the object at the cursor.
+// The object at the cursor, which member j and both lookups are asked of, after the opening.
 pub fn object_here(doc: &[u8], a: Areas, cursor: TreeOffset) -> Object
     requires { ⌜ Laid (now doc) a ⌝ }
     ensures { λ r. ⌜ ObjectRead (now (doc .entry)) a (cursor .0) r ⌝ }
@@ -178,6 +174,7 @@ fn member_of(doc: &[u8], a: Areas, c: usize, n: usize, j: usize) -> MemberAt
     })
 }
 
+// Member j of the object at the cursor, after the opening.
 pub fn member_here(doc: &[u8], a: Areas, cursor: TreeOffset, j: usize) -> MemberAt
     requires { ⌜ Laid (now doc) a ⌝ }
     ensures { λ r. ⌜ toldMember r ≡ ask (memberHere (now (doc .entry)) (cursor .0) j) ⌝ }

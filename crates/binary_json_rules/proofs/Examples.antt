@@ -225,11 +225,13 @@ pub questions-say :
     -- a slot is read when it is compared; a refusal has the counts 0 and 0
     × (ask (quickLookup (hex 36 0x01020000210000001C000000010000000300000000040000400400008004000062006300) 4 (99 ∷ [])) ≡ answers (counted (Lookup.entry 12) 2 1))
     × (lookupOf (ask (quickLookup (hex 36 0x01020000210000001C000000010000000300000000040000400400008004000062006300) 4 (97 ∷ []))) ≡ lookup (refuses 20 4) 0 0)
+    -- the counts stand in their order
+    × (lookup (answers absent) 1 2 ≡ record { answer = answers absent; first = 1; second = 2 })
     -- asked of an array
     × (lookupOf (ask (quickLookup (hex 12 0x010100000000000000000000) 4 (97 ∷ []))) ≡ lookup (refuses 21 4) 0 0)
     × (ask (plainScan (hex 12 0x010100000000000000000000) 4 (97 ∷ [])) ≡ refuses 21 4)
 unfolding need _>>=_ follow choose number finite byNumbers compareTexts index count slot text content numbers header slotNamed numberNamed opening treeWord body bodyWords kindHere kindAndSize elementHere element objectHere memberHere memberAt slotRead textNamed slotText typeHere entryType containerHere containerAt stringHere stringAt numberHere numberAt turn halveIf halveFrom halve afterKeys afterStrings quickHere quickLookup lookupOf scanFrom scanHere plainScan
-questions-say = (refl, refl, refl, refl, refl, refl, refl, refl, refl, refl, refl, refl, refl, refl, refl, refl, refl, refl, refl, refl, refl, refl, refl, refl, refl, refl, refl, refl, refl, refl, refl, refl, refl, refl, refl, refl, refl, refl, refl, refl, refl, refl, refl, refl, refl, refl, refl, refl, refl, refl, refl, refl, refl, refl, refl, refl, refl, refl, refl, refl, refl, refl, refl, refl, refl, refl, refl, refl, refl, refl, refl, refl, refl, refl, refl, refl, refl, refl, refl)
+questions-say = (refl, refl, refl, refl, refl, refl, refl, refl, refl, refl, refl, refl, refl, refl, refl, refl, refl, refl, refl, refl, refl, refl, refl, refl, refl, refl, refl, refl, refl, refl, refl, refl, refl, refl, refl, refl, refl, refl, refl, refl, refl, refl, refl, refl, refl, refl, refl, refl, refl, refl, refl, refl, refl, refl, refl, refl, refl, refl, refl, refl, refl, refl, refl, refl, refl, refl, refl, refl, refl, refl, refl, refl, refl, refl, refl, refl, refl, refl, refl, refl)
 
 -- ---- the tree with places
 
