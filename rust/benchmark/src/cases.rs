@@ -1,41 +1,61 @@
 //! What is timed and counted: a question, asked of both readers with the same bytes.
 
+use crate::asked::{self, Asked};
 use differential::exports::timed;
 use std::hint::black_box;
 use std::io::{self, Read, Write};
 
 pub type Call<'a> = Box<dyn FnMut() + 'a>;
 
-#[derive(Clone, Copy)]
+/// Where the root Meta of a BinaryJson document stands.
+pub const BINARY_ROOT: u64 = 4;
+
+#[derive(Clone, Copy, PartialEq)]
 pub enum Question {
     BinaryCheck,
     FracturedCheck,
     ListCheck,
     QuickLookup,
     PlainScan,
+    /// One that is asked at places.
+    Asked(Asked),
 }
-
-const QUESTIONS: [Question; 5] = [
-    Question::BinaryCheck,
-    Question::FracturedCheck,
-    Question::ListCheck,
-    Question::QuickLookup,
-    Question::PlainScan,
-];
 
 impl Question {
-    /// The question of a number, which `as u8` gives.
+    /// All of them, in the order of their numbers.
+    fn all() -> impl Iterator<Item = Question> {
+        [
+            Question::BinaryCheck,
+            Question::FracturedCheck,
+            Question::ListCheck,
+            Question::QuickLookup,
+            Question::PlainScan,
+        ]
+        .into_iter()
+        .chain(asked::ALL.iter().copied().map(Question::Asked))
+    }
+
+    fn number(self) -> u8 {
+        let before = Question::all().take_while(|q| *q != self);
+        before.count() as u8
+    }
+
     fn numbered(number: u8) -> Option<Question> {
-        QUESTIONS.into_iter().find(|q| *q as u8 == number)
+        Question::all().nth(number.into())
     }
 }
+
+/// Where a question is asked, and of which element, member or key.
+pub type Place = (u64, u64);
 
 pub struct Case {
     pub question: Question,
     /// The document, or the key list that is checked by itself.
     pub bytes: Vec<u8>,
-    /// The key list beside a document of Fractured JSON, or the keys that are looked up in turn.
+    /// The key list beside a document of Fractured JSON, and the keys that are looked up.
     pub beside: Vec<Vec<u8>>,
+    /// Where a question is asked in turn.
+    pub places: Vec<Place>,
 }
 
 impl Case {
@@ -44,6 +64,7 @@ impl Case {
             question: Question::BinaryCheck,
             bytes: doc,
             beside: vec![],
+            places: vec![],
         }
     }
 
@@ -52,6 +73,7 @@ impl Case {
             question: Question::FracturedCheck,
             bytes: doc,
             beside: vec![list],
+            places: vec![],
         }
     }
 
@@ -60,33 +82,35 @@ impl Case {
             question: Question::ListCheck,
             bytes: list,
             beside: vec![],
+            places: vec![],
         }
     }
 
-    /// One call of the proved reader, or a lookup of each key. A check must accept.
+    /// One call of the proved reader, or a lookup of each key, or a question at each place. A check must accept.
     pub fn proved(&self) -> Call<'_> {
         let bytes = &self.bytes[..];
         match self.question {
             Question::BinaryCheck => {
-                Box::new(move || assert_eq!(timed::binary_json_check(black_box(bytes)), 0))
+                Box::new(move || assert_eq!(timed::binary_json::check(black_box(bytes)), 0))
             }
             Question::FracturedCheck => {
                 let (list, mut table) = (&self.beside[0][..], key_table());
                 Box::new(move || {
                     let number =
-                        timed::fractured_json_check(black_box(bytes), black_box(list), &mut table);
+                        timed::fractured_json::check(black_box(bytes), black_box(list), &mut table);
                     assert_eq!(number, 0);
                 })
             }
             Question::ListCheck => {
-                Box::new(move || assert_eq!(timed::fractured_json_check_list(black_box(bytes)), 0))
+                Box::new(move || assert_eq!(timed::fractured_json::check_list(black_box(bytes)), 0))
             }
             Question::QuickLookup => self.lookups(|doc, key| {
-                black_box(timed::quick_lookup(doc, 4, key));
+                black_box(timed::binary_json::quick_lookup(doc, BINARY_ROOT, key));
             }),
             Question::PlainScan => self.lookups(|doc, key| {
-                black_box(timed::plain_scan(doc, 4, key));
+                black_box(timed::binary_json::plain_scan(doc, BINARY_ROOT, key));
             }),
+            Question::Asked(asked) => asked.proved(self),
         }
     }
 
@@ -109,11 +133,12 @@ impl Case {
                 assert_eq!(plain::fractured_json::check_list(black_box(bytes)), Ok(()));
             }),
             Question::QuickLookup => self.lookups(|doc, key| {
-                let _ = black_box(plain::binary_json::quick_lookup(doc, 4, key));
+                let _ = black_box(plain::binary_json::quick_lookup(doc, BINARY_ROOT, key));
             }),
             Question::PlainScan => self.lookups(|doc, key| {
-                let _ = black_box(plain::binary_json::plain_scan(doc, 4, key));
+                let _ = black_box(plain::binary_json::plain_scan(doc, BINARY_ROOT, key));
             }),
+            Question::Asked(asked) => asked.plain(self),
         }
     }
 
@@ -127,34 +152,48 @@ impl Case {
 
     /// Hands a case to another process, which reads it with `read`.
     pub fn write(&self, to: &mut impl Write) -> io::Result<()> {
-        to.write_all(&[self.question as u8, self.beside.len() as u8])?;
+        let [beside, places] = [self.beside.len(), self.places.len()].map(|n| n as u8);
+        to.write_all(&[self.question.number(), beside, places])?;
         for part in [&self.bytes].into_iter().chain(&self.beside) {
             to.write_all(&(part.len() as u64).to_le_bytes())?;
             to.write_all(part)?;
+        }
+        for (at, index) in &self.places {
+            to.write_all(&at.to_le_bytes())?;
+            to.write_all(&index.to_le_bytes())?;
         }
         to.flush()
     }
 
     /// The next case, or an error at the end of them.
     pub fn read(from: &mut impl Read) -> io::Result<Case> {
-        let mut head = [0; 2];
+        let mut head = [0; 3];
         from.read_exact(&mut head)?;
-        let mut part = || {
-            let mut length = [0; 8];
-            from.read_exact(&mut length)?;
-            let mut bytes = vec![0; u64::from_le_bytes(length) as usize];
-            from.read_exact(&mut bytes)?;
-            Ok(bytes)
-        };
+        let [question, beside, places] = head;
         Ok(Case {
-            question: Question::numbered(head[0]).ok_or(io::ErrorKind::InvalidData)?,
-            bytes: part()?,
-            beside: (0..head[1]).map(|_| part()).collect::<io::Result<_>>()?,
+            question: Question::numbered(question).ok_or(io::ErrorKind::InvalidData)?,
+            bytes: part(from)?,
+            beside: (0..beside).map(|_| part(from)).collect::<io::Result<_>>()?,
+            places: (0..places)
+                .map(|_| Ok((word(from)?, word(from)?)))
+                .collect::<io::Result<_>>()?,
         })
     }
 }
 
+fn word(from: &mut impl Read) -> io::Result<u64> {
+    let mut bytes = [0; 8];
+    from.read_exact(&mut bytes)?;
+    Ok(u64::from_le_bytes(bytes))
+}
+
+fn part(from: &mut impl Read) -> io::Result<Vec<u8>> {
+    let mut bytes = vec![0; word(from)? as usize];
+    from.read_exact(&mut bytes)?;
+    Ok(bytes)
+}
+
 /// A key table with the largest room.
-fn key_table() -> Vec<u32> {
+pub fn key_table() -> Vec<u32> {
     vec![0; 8192]
 }

@@ -3,7 +3,7 @@
 use crate::cases::Case;
 use crate::checks::{binary_document, fractured_check, fractured_document};
 use crate::lengths::{LENGTHS, MOST_KEYS, filled, full_room, repeated};
-use crate::shapes::{key, member, names, numbers, object, objects_of, season};
+use crate::shapes::{any_value, key, member, names, numbers, object, objects_of, season};
 use crate::tables::Made;
 use differential::DEEPEST;
 use documents::Tree;
@@ -78,7 +78,8 @@ fn shapes() -> Vec<Parts> {
             objects_of(&keys, 4, n)
         }),
         ("values of all kinds in random order", |n| {
-            Tree::Array(random().take(n).map(any_value).collect())
+            let values = random().take(n).map(|x| any_value(x >> 16, x));
+            Tree::Array(values.collect())
         }),
     ]
 }
@@ -97,20 +98,6 @@ fn random() -> impl Iterator<Item = u32> {
     std::iter::successors(Some(1_u32), |x| {
         Some(x.wrapping_mul(1_664_525).wrapping_add(1_013_904_223))
     })
-}
-
-/// A value of a kind that a random number chooses.
-fn any_value(random: u32) -> Tree {
-    match random >> 16 & 7 {
-        0 => Tree::Null,
-        1 => Tree::Bool(true),
-        2 => Tree::number(random.into()),
-        3 => Tree::text("frost"),
-        4 => Tree::Array(vec![]),
-        5 => Tree::Array(vec![Tree::Null]),
-        6 => Tree::Object(vec![]),
-        _ => Tree::Object(vec![member("air", Tree::Null)]),
-    }
 }
 
 fn binary_shapes() -> Vec<Growing> {

@@ -35,6 +35,7 @@ pub fn lookups(question: Question) -> Vec<Row> {
                     question,
                     bytes: binary_document(&object(members, digits, prefix)),
                     beside: keys.collect(),
+                    places: vec![],
                 };
                 (case, 16)
             }));

@@ -3,6 +3,7 @@
 //!
 //! Where valgrind is installed, the instructions of one call stand beside the times.
 
+mod asked;
 mod cases;
 mod checks;
 mod growth;
@@ -11,6 +12,7 @@ mod instructions;
 mod lengths;
 mod lookups;
 mod print;
+mod questions;
 mod shapes;
 mod tables;
 mod time;

@@ -122,6 +122,39 @@ pub fn numbers(n: usize) -> Tree {
     Tree::Array((0..n).map(|i| Tree::number(i as f64 / 8.0)).collect())
 }
 
+/// A value of the kind that the last three bits of `kind` choose. A number is `number`, a Boolean says whether that is not 0.
+pub fn any_value(kind: u32, number: u32) -> Tree {
+    match kind & 7 {
+        0 => Tree::Null,
+        1 => Tree::Bool(number != 0),
+        2 => Tree::number(number.into()),
+        3 => Tree::text("frost"),
+        4 => Tree::Array(vec![]),
+        5 => Tree::Array(vec![Tree::Null]),
+        6 => Tree::Object(vec![]),
+        _ => Tree::Object(vec![member("air", Tree::Null)]),
+    }
+}
+
+/// Four containers of sixteen: values of all kinds, containers, numbers, and members with strings. Every second key of these members is
+/// met before, among the containers, so that as Fractured JSON it is a back reference.
+pub fn sixteens() -> Tree {
+    let container = |i| match i % 2 {
+        0 => numbers(1),
+        _ => Tree::Object(vec![(key(i, 2, 0), Tree::Null)]),
+    };
+    let string = |i| (key(i, 2, 0), Tree::Text(format!("{i:08}").into_bytes()));
+    Tree::Object(vec![
+        member(
+            "any",
+            Tree::Array((0..16).map(|i| any_value(i, i / 8)).collect()),
+        ),
+        member("containers", Tree::Array((0..16).map(container).collect())),
+        member("numbers", numbers(16)),
+        member("strings", Tree::Object((0..16).map(string).collect())),
+    ])
+}
+
 pub fn shapes() -> Vec<Shape> {
     let deep = (0..60).map(|_| levels(28)).collect();
     vec![

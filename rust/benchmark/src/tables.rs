@@ -6,13 +6,14 @@ use crate::checks::{
 };
 use crate::hostile::texts_of_one_hash;
 use crate::lookups::lookups;
+use crate::questions::{binary_questions, fractured_questions};
 use crate::shapes::names;
 
 /// A case with a name.
 pub struct Made {
     pub name: String,
     pub case: Case,
-    /// How many values, keys, names, bytes or lookups one call is: figures are per one of them.
+    /// How many values, keys, names, bytes, lookups or questions one call is: figures are per one of them.
     pub per: usize,
 }
 
@@ -96,6 +97,20 @@ pub fn tables() -> Vec<Table> {
             "object, key",
             "ns",
             lookups(Question::PlainScan),
+        ),
+        table(
+            Kind::Lookups,
+            "Questions, BinaryJson",
+            "question",
+            "ns",
+            binary_questions(),
+        ),
+        table(
+            Kind::Lookups,
+            "Questions, Fractured JSON",
+            "question",
+            "ns",
+            fractured_questions(),
         ),
         table(
             Kind::Hostile,

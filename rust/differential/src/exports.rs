@@ -266,31 +266,125 @@ pub mod text {
     }
 }
 
-/// The calls that are timed: no test stands around them.
+/// The calls that are timed: no test stands around them. The questions are inlined, as they take few instructions, and give the number
+/// that is returned.
 pub mod timed {
-    use super::sys;
+    pub mod binary_json {
+        use czubrotek_sys as sys;
 
-    pub fn binary_json_check(doc: &[u8]) -> u32 {
-        sys::bj_check(doc, &mut [0; 1])
+        pub fn check(doc: &[u8]) -> u32 {
+            sys::bj_check(doc, &mut [0; 1])
+        }
+
+        #[inline]
+        pub fn kind_and_size(doc: &[u8], tree: u64) -> u32 {
+            sys::bj_kind_and_size(doc, tree, &mut [0; 2])
+        }
+
+        #[inline]
+        pub fn element(doc: &[u8], tree: u64, i: u64) -> u32 {
+            sys::bj_element(doc, tree, i, &mut [0; 1])
+        }
+
+        #[inline]
+        pub fn member(doc: &[u8], tree: u64, j: u64) -> u32 {
+            sys::bj_member(doc, tree, j, &mut [0; 2])
+        }
+
+        #[inline]
+        pub fn entry_type(doc: &[u8], tree: u64) -> u32 {
+            sys::bj_entry_type(doc, tree, &mut [0; 1])
+        }
+
+        #[inline]
+        pub fn container(doc: &[u8], tree: u64) -> u32 {
+            sys::bj_container(doc, tree, &mut [0; 1])
+        }
+
+        #[inline]
+        pub fn string(doc: &[u8], tree: u64) -> u32 {
+            sys::bj_string(doc, tree, &mut [0; 2])
+        }
+
+        #[inline]
+        pub fn number(doc: &[u8], tree: u64) -> u32 {
+            sys::bj_number(doc, tree, &mut [0; 1])
+        }
+
+        #[inline]
+        pub fn slot(doc: &[u8], slot: u64) -> u32 {
+            sys::bj_slot(doc, slot, &mut [0; 2])
+        }
+
+        pub fn quick_lookup(doc: &[u8], tree: u64, key: &[u8]) -> [u64; 4] {
+            let mut out = [0; 4];
+            sys::bj_quick_lookup(doc, tree, key, &mut out);
+            out
+        }
+
+        pub fn plain_scan(doc: &[u8], tree: u64, key: &[u8]) -> [u64; 2] {
+            let mut out = [0; 2];
+            sys::bj_plain_scan(doc, tree, key, &mut out);
+            out
+        }
     }
 
-    pub fn fractured_json_check_list(list: &[u8]) -> u32 {
-        sys::fj_check_list(list, &mut [0; 1])
-    }
+    pub mod fractured_json {
+        use czubrotek_sys as sys;
 
-    pub fn fractured_json_check(doc: &[u8], list: &[u8], keys: &mut [u32]) -> u32 {
-        sys::fj_check(doc, list, keys, &mut [0; 2])
-    }
+        pub fn check_list(list: &[u8]) -> u32 {
+            sys::fj_check_list(list, &mut [0; 1])
+        }
 
-    pub fn quick_lookup(doc: &[u8], tree: u64, key: &[u8]) -> [u64; 4] {
-        let mut out = [0; 4];
-        sys::bj_quick_lookup(doc, tree, key, &mut out);
-        out
-    }
+        pub fn check(doc: &[u8], list: &[u8], keys: &mut [u32]) -> u32 {
+            sys::fj_check(doc, list, keys, &mut [0; 2])
+        }
 
-    pub fn plain_scan(doc: &[u8], tree: u64, key: &[u8]) -> [u64; 2] {
-        let mut out = [0; 2];
-        sys::bj_plain_scan(doc, tree, key, &mut out);
-        out
+        #[inline]
+        pub fn end(doc: &[u8], list: &[u8], keys: &[u32], count: u64, at: u64) -> u32 {
+            sys::fj_end(doc, list, keys, count, at, &mut [0; 1])
+        }
+
+        #[inline]
+        pub fn kind(doc: &[u8], list: &[u8], at: u64) -> u32 {
+            sys::fj_kind(doc, list, at, &mut [0; 2])
+        }
+
+        #[inline]
+        pub fn number(doc: &[u8], list: &[u8], at: u64) -> u32 {
+            sys::fj_number(doc, list, at, &mut [0; 2])
+        }
+
+        #[inline]
+        pub fn string(doc: &[u8], list: &[u8], at: u64) -> u32 {
+            sys::fj_string(doc, list, at, &mut [0; 2])
+        }
+
+        #[inline]
+        pub fn element(doc: &[u8], list: &[u8], keys: &[u32], count: u64, at: u64, i: u64) -> u32 {
+            sys::fj_element(doc, list, keys, count, at, i, &mut [0; 1])
+        }
+
+        #[inline]
+        pub fn member(doc: &[u8], list: &[u8], keys: &[u32], count: u64, at: u64, j: u64) -> u32 {
+            sys::fj_member(doc, list, keys, count, at, j, &mut [0; 2])
+        }
+
+        #[inline]
+        pub fn first_member(
+            doc: &[u8],
+            list: &[u8],
+            keys: &[u32],
+            count: u64,
+            at: u64,
+            key: &[u8],
+        ) -> u32 {
+            sys::fj_first_member(doc, list, keys, count, at, key, &mut [0; 2])
+        }
+
+        #[inline]
+        pub fn key(doc: &[u8], list: &[u8], keys: &[u32], count: u64, at: u64) -> u32 {
+            sys::fj_key(doc, list, keys, count, at, &mut [0; 4])
+        }
     }
 }
