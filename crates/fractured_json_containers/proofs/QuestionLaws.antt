@@ -1,4 +1,4 @@
--- One law for each way through the questions of questions.rt.
+-- One law for each way through the questions of questions.rt: first what they ask after the opening, then the questions themselves.
 use mathlib.Core.Path.{_≡_, sym, ap, _∙_}
 use mathlib.Core.Bool.{true, false}
 use mathlib.Core.List.{List}
@@ -18,7 +18,7 @@ use Rattle.json.proofs.Bytes.{number-small}
 use Rattle.json.proofs.Reading.{step, then, stops, pass, fail}
 use Rattle.fractured_json_rules.specs.KeyList.{countIn, keyList, nameOf}
 use Rattle.fractured_json_rules.specs.Verdict.{inTurn, value}
-use Rattle.fractured_json_rules.specs.Questions.{opening, typeAt, theDocument, theList, readKey, passKey, inner, endOf, anObject, anArray, elementFrom, elementAt, MemberAt, memberFrom, memberAt, Found, findIn, firstMember, keyAt, keyBytes}
+use Rattle.fractured_json_rules.specs.Questions.{opening, theDocument, theList, KeyRead, readKey, passKey, inner, endOf, anObject, anArray, elementFrom, elementHere, elementAt, MemberAt, memberFrom, memberHere, memberAt, Found, findIn, firstHere, firstMember, keyAt, keyBytes}
 use Rattle.fractured_json_values.specs.Opened.{entry, ReadsNumeral}
 use Rattle.fractured_json_scalars.specs.Asked.{wantedIn}
 use Rattle.fractured_json_list.specs.Finding.{namedFrom, Named}
@@ -29,20 +29,7 @@ use Rattle.fractured_json_answers.specs.declared.Place.{Place}
 use Rattle.fractured_json_values.specs.declared.values.Numeral.{Numeral}
 use Rattle.fractured_json_containers.specs.declared.skip.KeyText.{KeyText}
 use Rattle.fractured_json_list.proofs.FindLaws.{answer-names}
-use Rattle.fractured_json_scalars.proofs.Entering.{length-refused, length-read}
-
--- ---- its end
-
-module _ (doc list words : List ℕ) (count at : ℕ) (v : Verdict) (vs : told v ≡ ask (opening doc list at)) where
-  pub end-refused : (r : Refusal) → v ≡ Verdict.Refused r → refuses (r .number) (r .place) ≡ ask (endOf doc list words count at)
-  unfolding endOf
-  end-refused r e = sym (stops _ _ tt (sym vs ∙ ap told e))
-
-  pub end-walked : (r : Asked ℕ) → v ≡ Verdict.Accepted → r ≡ ask (value (passKey doc list words count) deepest doc at) → r ≡ ask (endOf doc list words count at)
-  unfolding endOf
-  end-walked r e h = h ∙ sym (then _ _ tt (sym vs ∙ ap told e))
-
-pub ruleset end-laws = (end-refused, end-walked, needs)
+use Rattle.fractured_json_scalars.proofs.Entering.{opening-refused, opening-passed, length-refused, length-read}
 
 -- ---- element i
 
@@ -56,18 +43,18 @@ module _ (doc list words : List ℕ) (count at i : ℕ) where
   unfolding elementFrom entry
   element-walked n first r h e = e ∙ sym (pass _ _ _ _ tt (lt→ltb _ _ h))
 
-  module _ (c : Numeral) (cs : ReadsNumeral (length doc) (ask (wantedIn doc list at 10)) c) where
-    pub element-refused : (r : Refusal) → c ≡ Numeral.Refused r → refuses (r .number) (r .place) ≡ ask (elementAt doc list words count at i)
-    unfolding elementAt
-    element-refused r q = sym (length-refused doc list at anArray _ c cs r q)
+  module _ (c : Numeral) (cs : ReadsNumeral (length doc) (ask (wantedIn doc at 10)) c) where
+    pub element-refused : (r : Refusal) → c ≡ Numeral.Refused r → refuses (r .number) (r .place) ≡ ask (elementHere doc list words count at i)
+    unfolding elementHere
+    element-refused r q = sym (length-refused doc at anArray _ c cs r q)
 
-    pub element-read : (n p : ℕ) (r : Asked ℕ) → c ≡ Numeral.Is n p → r ≡ ask (elementFrom doc list words count at i n p) → r ≡ ask (elementAt doc list words count at i)
-    unfolding elementAt
-    element-read n p r q e = e ∙ sym (length-read doc list at anArray _ c cs n p q)
+    pub element-read : (n p : ℕ) (r : Asked ℕ) → c ≡ Numeral.Is n p → r ≡ ask (elementFrom doc list words count at i n p) → r ≡ ask (elementHere doc list words count at i)
+    unfolding elementHere
+    element-read n p r q e = e ∙ sym (length-read doc at anArray _ c cs n p q)
 
 pub ruleset element-from-laws = (element-past, element-walked, needs)
 
-pub ruleset element-laws = (element-refused, element-read, needs)
+pub ruleset element-here-laws = (element-refused, element-read, needs)
 
 -- ---- member j
 
@@ -90,75 +77,118 @@ module _ (doc list words : List ℕ) (count at j : ℕ) where
       unfolding memberFrom entry
       member-found p e = sym (pass _ _ _ _ tt (lt→ltb _ _ h) ∙ (then _ _ tt (sym ws ∙ ap toldPlace q) ∙ then _ _ tt (sym ks ∙ ap toldPlace e)))
 
-  module _ (c : Numeral) (cs : ReadsNumeral (length doc) (ask (wantedIn doc list at 9)) c) where
-    pub member-refused : (r : Refusal) → c ≡ Numeral.Refused r → refuses (r .number) (r .place) ≡ ask (memberAt doc list words count at j)
-    unfolding memberAt
-    member-refused r q = sym (length-refused doc list at anObject _ c cs r q)
+  module _ (c : Numeral) (cs : ReadsNumeral (length doc) (ask (wantedIn doc at 9)) c) where
+    pub member-refused : (r : Refusal) → c ≡ Numeral.Refused r → refuses (r .number) (r .place) ≡ ask (memberHere doc list words count at j)
+    unfolding memberHere
+    member-refused r q = sym (length-refused doc at anObject _ c cs r q)
 
-    pub member-read : (n p : ℕ) (r : Asked MemberAt) → c ≡ Numeral.Is n p → r ≡ ask (memberFrom doc list words count at j n p) → r ≡ ask (memberAt doc list words count at j)
-    unfolding memberAt
-    member-read n p r q e = e ∙ sym (length-read doc list at anObject _ c cs n p q)
+    pub member-read : (n p : ℕ) (r : Asked MemberAt) → c ≡ Numeral.Is n p → r ≡ ask (memberFrom doc list words count at j n p) → r ≡ ask (memberHere doc list words count at j)
+    unfolding memberHere
+    member-read n p r q e = e ∙ sym (length-read doc at anObject _ c cs n p q)
 
 pub ruleset member-from-laws = (member-past, members-refused, key-refused, member-found, needs)
 
-pub ruleset member-laws = (member-refused, member-read, needs)
+pub ruleset member-here-laws = (member-refused, member-read, needs)
 
 -- ---- the first member by key
 
-module _ (doc list words : List ℕ) (count at : ℕ) (x : List ℕ) (c : Numeral) (cs : ReadsNumeral (length doc) (ask (wantedIn doc list at 9)) c) where
-  pub find-refused : (r : Refusal) → c ≡ Numeral.Refused r → refuses (r .number) (r .place) ≡ ask (firstMember doc list words count at x)
-  unfolding firstMember
-  find-refused r q = sym (length-refused doc list at anObject _ c cs r q)
+module _ (doc list words : List ℕ) (count at : ℕ) (x : List ℕ) (c : Numeral) (cs : ReadsNumeral (length doc) (ask (wantedIn doc at 9)) c) where
+  pub find-refused : (r : Refusal) → c ≡ Numeral.Refused r → refuses (r .number) (r .place) ≡ ask (firstHere doc list words count at x)
+  unfolding firstHere
+  find-refused r q = sym (length-refused doc at anObject _ c cs r q)
 
-  -- a length was read, so the key list is good
-  list-good : (n p : ℕ) → c ≡ Numeral.Is n p → ask (keyList list) ≡ answers tt
-  unfolding wantedIn typeAt opening
-  list-good n p q =
-      let w : ReadsNumeral (length doc) (ask (wantedIn doc list at 9)) (Numeral.Is n p) = rw q at cs in
-      step _ _ tt (step _ _ tt (step _ _ tt (w .0) .first) .first) .first
+  pub find-read : (n p : ℕ) (r : Asked Found) → c ≡ Numeral.Is n p → r ≡ ask (findIn doc list words count x n p) → r ≡ ask (firstHere doc list words count at x)
+  unfolding firstHere
+  find-read n p r q e = e ∙ sym (length-read doc at anObject _ c cs n p q)
 
-  pub name-found : (n p r : ℕ) → c ≡ Numeral.Is n p → r ≡ namedFrom list x (countIn list) 3 0 → Named list x r
-  name-found n p r q e = answer-names list x r (list-good n p q) e
+pub name-found : (list x : List ℕ) (r : ℕ) → ask (keyList list) ≡ answers tt → r ≡ namedFrom list x (countIn list) 3 0 → Named list x r
+name-found list x r good e = answer-names list x r good e
 
-  pub find-read : (n p : ℕ) (r : Asked Found) → c ≡ Numeral.Is n p → r ≡ ask (findIn doc list words count x n p) → r ≡ ask (firstMember doc list words count at x)
-  unfolding firstMember
-  find-read n p r q e = e ∙ sym (length-read doc list at anObject _ c cs n p q)
-
-pub ruleset first-member-laws = (find-refused, name-found, find-read, needs)
+pub ruleset first-here-laws = (find-refused, name-found, find-read, needs)
 
 -- ---- a key
 
+module _ (doc list words : List ℕ) (count at : ℕ) (k : KeyText) (ks : ReadsKey list (ask (readKey doc list words count at)) k) where
+  pub key-unread : (r : Refusal) → k ≡ KeyText.Refused r → refuses (r .number) (r .place) ≡ ask (readKey doc list words count at)
+  key-unread r q = let w : ReadsKey list (ask (readKey doc list words count at)) (KeyText.Refused r) = rw q at ks in sym w
+
+  pub key-in-document : (s l p : ℕ) → k ≡ KeyText.At s l p
+      → answers (record { lender = theDocument; place = s; len = l; past = p }) ≡ ask (readKey doc list words count at)
+  key-in-document s l p q = let w : ReadsKey list (ask (readKey doc list words count at)) (KeyText.At s l p) = rw q at ks in sym w
+
+  pub name-number : (j p : ℕ) → k ≡ KeyText.Name j p → ((i : ℕ) → Fits w8 (getD list i 0)) → j < 65_536
+  name-number j p q g =
+      let w : ReadsKey list (ask (readKey doc list words count at)) (KeyText.Name j p) = rw q at ks in
+      let l = w .1 in
+      let m = number-small list (λ i. g i .fits) 1 2 in
+      omega arith
+
+  pub key-in-list : (j p : ℕ) → k ≡ KeyText.Name j p → (s l : ℕ) → s ≡ nameOf list j .start → l ≡ nameOf list j .len
+      → answers (record { lender = theList; place = s; len = l; past = p }) ≡ ask (readKey doc list words count at)
+  key-in-list j p q s l a b = let w : ReadsKey list (ask (readKey doc list words count at)) (KeyText.Name j p) = rw q at ks in rw (a, b) (sym (w .0))
+
+pub ruleset key-here-laws = (key-unread, key-in-document, name-number, key-in-list, needs)
+
+-- ---- the questions: refused by the opening, or what they ask after it
+
 module _ (doc list words : List ℕ) (count at : ℕ) (v : Verdict) (vs : told v ≡ ask (opening doc list at)) where
+  pub end-closed : (r : Refusal) → v ≡ Verdict.Refused r → refuses (r .number) (r .place) ≡ ask (endOf doc list words count at)
+  unfolding endOf
+  end-closed r e = opening-refused doc list at _ v vs r e
+
+  pub end-opened : (r : Asked ℕ) → v ≡ Verdict.Accepted → r ≡ ask (value (passKey doc list words count) deepest doc at) → r ≡ ask (endOf doc list words count at)
+  unfolding endOf
+  end-opened r e h = opening-passed doc list at _ v vs r e h
+
+  pub element-closed : (i : ℕ) (r : Refusal) → v ≡ Verdict.Refused r → refuses (r .number) (r .place) ≡ ask (elementAt doc list words count at i)
+  unfolding elementAt
+  element-closed i r e = opening-refused doc list at _ v vs r e
+
+  pub element-opened : (i : ℕ) (r : Asked ℕ) → v ≡ Verdict.Accepted → r ≡ ask (elementHere doc list words count at i) → r ≡ ask (elementAt doc list words count at i)
+  unfolding elementAt
+  element-opened i r e h = opening-passed doc list at _ v vs r e h
+
+  pub member-closed : (j : ℕ) (r : Refusal) → v ≡ Verdict.Refused r → refuses (r .number) (r .place) ≡ ask (memberAt doc list words count at j)
+  unfolding memberAt
+  member-closed j r e = opening-refused doc list at _ v vs r e
+
+  pub member-opened : (j : ℕ) (r : Asked MemberAt) → v ≡ Verdict.Accepted → r ≡ ask (memberHere doc list words count at j) → r ≡ ask (memberAt doc list words count at j)
+  unfolding memberAt
+  member-opened j r e h = opening-passed doc list at _ v vs r e h
+
+  pub first-closed : (x : List ℕ) (r : Refusal) → v ≡ Verdict.Refused r → refuses (r .number) (r .place) ≡ ask (firstMember doc list words count at x)
+  unfolding firstMember
+  first-closed x r e = opening-refused doc list at _ v vs r e
+
+  pub first-opened : (x : List ℕ) (r : Asked Found) → v ≡ Verdict.Accepted → r ≡ ask (firstHere doc list words count at x) → r ≡ ask (firstMember doc list words count at x)
+  unfolding firstMember
+  first-opened x r e h = opening-passed doc list at _ v vs r e h
+
   pub key-closed : (r : Refusal) → v ≡ Verdict.Refused r → refuses (r .number) (r .place) ≡ ask (keyAt doc list words count at)
   unfolding keyAt
-  key-closed r e = sym (stops _ _ tt (sym vs ∙ ap told e))
+  key-closed r e = opening-refused doc list at _ v vs r e
 
-  module _ (e : v ≡ Verdict.Accepted) (k : KeyText) (ks : ReadsKey list (ask (readKey doc list words count at)) k) where
-    goes-on : ask (keyAt doc list words count at) ≡ ask (readKey doc list words count at)
-    unfolding keyAt
-    goes-on = then _ _ tt (sym vs ∙ ap told e)
+  pub key-opened : (r : Asked KeyRead) → v ≡ Verdict.Accepted → r ≡ ask (readKey doc list words count at) → r ≡ ask (keyAt doc list words count at)
+  unfolding keyAt
+  key-opened r e h = opening-passed doc list at _ v vs r e h
 
-    pub key-unread : (r : Refusal) → k ≡ KeyText.Refused r → refuses (r .number) (r .place) ≡ ask (keyAt doc list words count at)
-    key-unread r q = let w : ReadsKey list (ask (readKey doc list words count at)) (KeyText.Refused r) = rw q at ks in sym (goes-on ∙ w)
+-- opened, the key list is good
+pub list-good : (doc list : List ℕ) (at : ℕ) (v : Verdict) → told v ≡ ask (opening doc list at) → v ≡ Verdict.Accepted → ask (keyList list) ≡ answers tt
+unfolding opening
+list-good doc list at v vs e = step _ _ tt (sym vs ∙ ap told e) .first
 
-    pub key-in-document : (s l p : ℕ) → k ≡ KeyText.At s l p
-        → answers (record { lender = theDocument; place = s; len = l; past = p }) ≡ ask (keyAt doc list words count at)
-    key-in-document s l p q = let w : ReadsKey list (ask (readKey doc list words count at)) (KeyText.At s l p) = rw q at ks in sym (goes-on ∙ w)
+pub ruleset end-laws = (end-closed, end-opened, needs)
 
-    pub name-number : (j p : ℕ) → k ≡ KeyText.Name j p → ((i : ℕ) → Fits w8 (getD list i 0)) → j < 65_536
-    name-number j p q g =
-        let w : ReadsKey list (ask (readKey doc list words count at)) (KeyText.Name j p) = rw q at ks in
-        let l = w .1 in
-        let m = number-small list (λ i. g i .fits) 1 2 in
-        omega arith
+pub ruleset element-laws = (element-closed, element-opened, needs)
 
-    pub key-in-list : (j p : ℕ) → k ≡ KeyText.Name j p → (s l : ℕ) → s ≡ nameOf list j .start → l ≡ nameOf list j .len
-        → answers (record { lender = theList; place = s; len = l; past = p }) ≡ ask (keyAt doc list words count at)
-    key-in-list j p q s l a b = let w : ReadsKey list (ask (readKey doc list words count at)) (KeyText.Name j p) = rw q at ks in rw (a, b) (sym (goes-on ∙ w .0))
+pub ruleset member-laws = (member-closed, member-opened, needs)
 
-pub ruleset key-laws = (key-closed, key-unread, key-in-document, name-number, key-in-list, needs)
+pub ruleset first-member-laws = (list-good, first-closed, first-opened, needs)
 
--- and its text
+pub ruleset key-laws = (key-closed, key-opened, needs)
+
+-- ---- a key's text
+
 module _ (doc list words : List ℕ) (count at : ℕ) (k : Key) (ks : toldKey k ≡ ask (keyAt doc list words count at)) where
   pub no-key-text : (r : Refusal) (x : List ℕ) → k ≡ Key.Refused r → x ≡ part doc 0 0 → x ≡ keyBytes doc list words count at
   no-key-text r x q e = let w : ask (keyAt doc list words count at) ≡ refuses (r .number) (r .place) = sym ks ∙ ap toldKey q in rw w e

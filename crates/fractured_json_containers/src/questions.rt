@@ -1,5 +1,6 @@
 // The questions that go by the key table: where a value ends, an element, a member, the first member by its key, and a key. Each is
-// right for all bytes, key lists, cursors, key tables and counts, and reads only what it needs, in the order of the rules.
+// right for all bytes, key lists, cursors, key tables and counts, and reads only what it needs, in the order of the rules. What it asks
+// after the opening is a function of its own (`.._here`; the end's is `skip`), for walks that open once.
 use crate::lookup::find;
 use crate::skip::INNER;
 use crate::skip::KeyText;
@@ -21,8 +22,9 @@ use json::Refusal;
 use json::Verdict;
 use json::limits::DEEPEST;
 ghost use mathlib.Core.Path.{_≡_};
-ghost use Rattle.json.specs.Reading.{ask};
-ghost use Rattle.fractured_json_rules.specs.Questions.{endOf, elementFrom, elementAt, memberFrom, memberAt, firstMember, keyAt, keyBytes};
+ghost use Rattle.json.specs.Reading.{ask, answers};
+ghost use Rattle.fractured_json_rules.specs.KeyList.{keyList};
+ghost use Rattle.fractured_json_rules.specs.Questions.{endOf, elementFrom, elementHere, elementAt, memberFrom, memberHere, memberAt, firstHere, firstMember, readKey, keyAt, keyBytes};
 ghost use Rattle.fractured_json_answers.specs.Told.{toldPlace, toldMember, toldFound, toldKey};
 
 // The kinds that a length is asked of.
@@ -63,14 +65,32 @@ fn element_from(
     skip_entries(doc, list, keys, count, first, i, false, INNER)
 }
 
+// Element i of the array at the cursor, after the opening.
+pub fn element_here(
+    doc: &[u8],
+    list: &[u8],
+    keys: &[u32],
+    count: usize,
+    at: usize,
+    i: usize,
+) -> Place
+    ensures { λ r. ⌜ toldPlace r ≡ ask (elementHere (now (doc .entry)) (now (list .entry)) (now (keys .entry)) count at i) ⌝ }
+{
+    let n = wanted(doc, at, ARRAY);
+    match n {
+        Numeral::Refused(r) => Place::Refused(r),
+        Numeral::Is { number, past } => element_from(doc, list, keys, count, at, i, number, past),
+    }
+}
+
 // Where element i of the array at the cursor stands.
 pub fn element(doc: &[u8], list: &[u8], keys: &[u32], count: usize, at: usize, i: usize) -> Place
     ensures { λ r. ⌜ toldPlace r ≡ ask (elementAt (now (doc .entry)) (now (list .entry)) (now (keys .entry)) count at i) ⌝ }
 {
-    let n = wanted(doc, list, at, ARRAY);
-    match n {
-        Numeral::Refused(r) => Place::Refused(r),
-        Numeral::Is { number, past } => element_from(doc, list, keys, count, at, i, number, past),
+    let o = open_question(doc, list, at);
+    match o {
+        Verdict::Refused(r) => Place::Refused(r),
+        Verdict::Accepted => element_here(doc, list, keys, count, at, i),
     }
 }
 
@@ -109,14 +129,47 @@ fn member_from(
     }
 }
 
+// Member j of the object at the cursor, after the opening.
+pub fn member_here(
+    doc: &[u8],
+    list: &[u8],
+    keys: &[u32],
+    count: usize,
+    at: usize,
+    j: usize,
+) -> Member
+    ensures { λ r. ⌜ toldMember r ≡ ask (memberHere (now (doc .entry)) (now (list .entry)) (now (keys .entry)) count at j) ⌝ }
+{
+    let n = wanted(doc, at, OBJECT);
+    match n {
+        Numeral::Refused(r) => Member::Refused(r),
+        Numeral::Is { number, past } => member_from(doc, list, keys, count, at, j, number, past),
+    }
+}
+
 // Where the key byte and the value of member j of the object at the cursor stand.
 pub fn member(doc: &[u8], list: &[u8], keys: &[u32], count: usize, at: usize, j: usize) -> Member
     ensures { λ r. ⌜ toldMember r ≡ ask (memberAt (now (doc .entry)) (now (list .entry)) (now (keys .entry)) count at j) ⌝ }
 {
-    let n = wanted(doc, list, at, OBJECT);
+    let o = open_question(doc, list, at);
+    match o {
+        Verdict::Refused(r) => Member::Refused(r),
+        Verdict::Accepted => member_here(doc, list, keys, count, at, j),
+    }
+}
+
+// The first member with the key `x` of the object at the cursor, after the opening, which says that the key list is good.
+pub fn first_here(doc: &[u8], list: &[u8], keys: &[u32], count: usize, at: usize, x: &[u8]) -> Found
+    requires { ⌜ ask (keyList (now list)) ≡ answers tt ⌝ }
+    ensures { λ r. ⌜ toldFound r ≡ ask (firstHere (now (doc .entry)) (now (list .entry)) (now (keys .entry)) count at (now (x .entry))) ⌝ }
+{
+    let n = wanted(doc, at, OBJECT);
     match n {
-        Numeral::Refused(r) => Member::Refused(r),
-        Numeral::Is { number, past } => member_from(doc, list, keys, count, at, j, number, past),
+        Numeral::Refused(r) => Found::Refused(r),
+        Numeral::Is { number, past } => {
+            let named = find_name(list, x);
+            find(doc, list, keys, count, x, named, number, past)
+        }
     }
 }
 
@@ -131,12 +184,32 @@ pub fn first_member(
 ) -> Found
     ensures { λ r. ⌜ toldFound r ≡ ask (firstMember (now (doc .entry)) (now (list .entry)) (now (keys .entry)) count at (now (x .entry))) ⌝ }
 {
-    let n = wanted(doc, list, at, OBJECT);
-    match n {
-        Numeral::Refused(r) => Found::Refused(r),
-        Numeral::Is { number, past } => {
-            let named = find_name(list, x);
-            find(doc, list, keys, count, x, named, number, past)
+    let o = open_question(doc, list, at);
+    match o {
+        Verdict::Refused(r) => Found::Refused(r),
+        Verdict::Accepted => first_here(doc, list, keys, count, at, x),
+    }
+}
+
+// The key at a key byte, after the opening.
+pub fn key_here(doc: &[u8], list: &[u8], keys: &[u32], count: usize, at: usize) -> Key
+    ensures { λ r. ⌜ toldKey r ≡ ask (readKey (now (doc .entry)) (now (list .entry)) (now (keys .entry)) count at) ⌝ }
+{
+    let k = read_key(doc, list, keys, count, at);
+    match k {
+        KeyText::Refused(r) => Key::Refused(r),
+        KeyText::At { start, len, past } => Key::Document {
+            place: start,
+            len,
+            past,
+        },
+        KeyText::Name { number, past } => {
+            let n = name_of(list, number);
+            Key::List {
+                place: n.start,
+                len: n.len,
+                past,
+            }
         }
     }
 }
@@ -148,25 +221,7 @@ pub fn key(doc: &[u8], list: &[u8], keys: &[u32], count: usize, at: usize) -> Ke
     let o = open_question(doc, list, at);
     match o {
         Verdict::Refused(r) => Key::Refused(r),
-        Verdict::Accepted => {
-            let k = read_key(doc, list, keys, count, at);
-            match k {
-                KeyText::Refused(r) => Key::Refused(r),
-                KeyText::At { start, len, past } => Key::Document {
-                    place: start,
-                    len,
-                    past,
-                },
-                KeyText::Name { number, past } => {
-                    let n = name_of(list, number);
-                    Key::List {
-                        place: n.start,
-                        len: n.len,
-                        past,
-                    }
-                }
-            }
-        }
+        Verdict::Accepted => key_here(doc, list, keys, count, at),
     }
 }
 

@@ -9,7 +9,7 @@ use lib.Dec.{eqb-refl, leb→le, lt→ltb, ltb→lt}
 use lib.ListN.{length, getD}
 use Rattle.json.specs.Bytes.{Bytes, number, part}
 use Rattle.json.specs.Limits.{deepest, mostKeys}
-use Rattle.json.specs.Reading.{Outcome, halt, done, Asked, ask, answers, refuses}
+use Rattle.json.specs.Reading.{Outcome, halt, done, Reading, Asked, ask, answers, refuses, _>>_}
 use Rattle.json.specs.Tree.{Tree, num, str, arr, obj, Trees, Members, size, sizem, depth, ElementIs, MemberIs, Lacks, NoNumber, NoString, NoArray, NoObject, Subtree}
 use Rattle.json.proofs.Reading.{halt≢done, done-answer, past, step, passed, then, stops, pass, fail, need-yes}
 use Rattle.json.proofs.Tree.{element-at, member-at, member-below, subtree-depth}
@@ -20,8 +20,8 @@ use Rattle.fractured_json_rules.specs.KeyList.{countIn, keyList, noNames
 use Rattle.fractured_json_rules.specs.KeyTable.{roomOf, keyOf, checked}
 use Rattle.fractured_json_rules.specs.TreeOf.{treeOf, lengthIn, keyEnd}
 use Rattle.fractured_json_rules.specs.Leads.{elementPlace, keyPlace, Leads, element, value, StandsFor}
-use Rattle.fractured_json_rules.specs.Questions.{opening, typeAt, theList, KeyRead, lent, textKey, backKey, nameKey, readKey, Wanted, aString, anObject, anArray, wantedAt, passKey, endOf, kind, numberAt, stringAt, stringBytes, elementFrom, elementAt, MemberAt}
-use Rattle.fractured_json_rules.specs.Questions.{memberFrom, memberAt, Found, valueAt, absent, firstMember, keyAt, keyBytes}
+use Rattle.fractured_json_rules.specs.Questions.{opening, theList, KeyRead, lent, textKey, backKey, nameKey, readKey, passKey, endOf, kind, numberAt, stringAt, stringHere, stringBytes, elementFrom, elementAt, elementHere, MemberAt}
+use Rattle.fractured_json_rules.specs.Questions.{memberFrom, memberAt, memberHere, Found, valueAt, absent, firstMember, firstHere, keyAt, keyBytes}
 use Rattle.fractured_json_rules.specs.Answers.{kindOf, valueOf}
 use Rattle.fractured_json_rules.proofs.KeyList.{list-step, list-is, name-is}
 use Rattle.fractured_json_rules.proofs.Sound.{sound}
@@ -34,7 +34,7 @@ use Rattle.fractured_json_rules.proofs.Nodes.{element-node, member-node
 use Rattle.fractured_json_rules.proofs.Readers.{header-is, byte-step, text-step, key-number-step}
 use Rattle.fractured_json_rules.proofs.Walk.{walks}
 use Rattle.fractured_json_rules.proofs.Answers.{Holds, KeyAnswer, reads-key, walks-value, walks-to-element, walks-to-member, Lookup, hit, miss, finds}
-use Rattle.fractured_json_rules.proofs.Questions.{opening-is, asked, kind-is, number-is, string-is, no-number, no-string, no-array, no-object, array-length, object-length}
+use Rattle.fractured_json_rules.proofs.Questions.{opening-is, kind-is, number-is, string-is, no-number, no-string, no-array, no-object, array-length, object-length}
 
 -- ---- Demand 2: a document is accepted exactly if it keeps the format's rules, with room for its keys in the table lent.
 
@@ -75,25 +75,17 @@ module _ (doc list : List ℕ) (c n p : ℕ) (e : ask (keyList list) ≡ refuses
   unfolding opening
   bad-opening = stops _ _ tt e
 
-  bad-type : ask (typeAt doc list c) ≡ refuses n p
-  unfolding typeAt
-  bad-type = stops _ _ tt bad-opening
-
-  bad-wanted : (want : Wanted) → ask (wantedAt doc list c want) ≡ refuses n p
-  unfolding wantedAt
-  bad-wanted want = stops _ _ tt bad-type
-
   pub bad-list-kind : ask (kind doc list c) ≡ refuses n p
   unfolding kind
-  bad-list-kind = stops _ _ tt bad-type
+  bad-list-kind = stops _ _ tt bad-opening
 
   pub bad-list-number : ask (numberAt doc list c) ≡ refuses n p
   unfolding numberAt
-  bad-list-number = stops _ _ tt bad-type
+  bad-list-number = stops _ _ tt bad-opening
 
   pub bad-list-string : (ask (stringAt doc list c) ≡ refuses n p) × (stringBytes doc list c ≡ [])
   unfolding stringAt
-  bad-list-string = let r = stops _ _ tt (bad-wanted aString) in (r, rw r)
+  bad-list-string = let r = stops _ _ tt bad-opening in (r, rw r)
 
   module _ (words : List ℕ) (count : ℕ) where
     pub bad-list-end : ask (endOf doc list words count c) ≡ refuses n p
@@ -102,15 +94,15 @@ module _ (doc list : List ℕ) (c n p : ℕ) (e : ask (keyList list) ≡ refuses
 
     pub bad-list-element : (i : ℕ) → ask (elementAt doc list words count c i) ≡ refuses n p
     unfolding elementAt
-    bad-list-element i = stops _ _ tt (bad-wanted anArray)
+    bad-list-element i = stops _ _ tt bad-opening
 
     pub bad-list-member : (j : ℕ) → ask (memberAt doc list words count c j) ≡ refuses n p
     unfolding memberAt
-    bad-list-member j = stops _ _ tt (bad-wanted anObject)
+    bad-list-member j = stops _ _ tt bad-opening
 
     pub bad-list-first-member : (x : List ℕ) → ask (firstMember doc list words count c x) ≡ refuses n p
     unfolding firstMember
-    bad-list-first-member x = stops _ _ tt (bad-wanted anObject)
+    bad-list-first-member x = stops _ _ tt bad-opening
 
     pub bad-list-key : (ask (keyAt doc list words count c) ≡ refuses n p) × (keyBytes doc list words count c ≡ [])
     unfolding keyAt
@@ -246,33 +238,36 @@ module _ (doc list : List ℕ) (t : Tree) (m : Means doc list t) {o : ℕ} (l : 
       let n = Nodes.node doc list t m l in
       (n .after-header, subst (λ (v : Tree). Subtree t v) (node-one doc list (m .names) (m .listed) (m .keys) o (n .tree) u (n .stands) s) (n .below))
 
+  -- every question put there passes the opening
+  opens : {A : Type 0} (rest : Reading (Unit {0}) A) → ask (opening doc list o >> rest) ≡ ask rest
+  opens rest = then _ _ tt (opening-is doc (m .names) list (m .listed) (m .headed) o (Nodes.node doc list t m l .after-header))
+
   pub kind-answer : (u : Tree) → StandsFor doc (m .names) (m .keys) o u → ask (kind doc list o) ≡ answers (kindOf u)
   unfolding kind
-  kind-answer u s = asked doc (m .names) list (m .listed) (m .headed) o _ u _ _ _ (below u s .0) (s .value) ∙ kind-is doc (m .names) u o _ _ _ (s .value)
+  kind-answer u s = opens _ ∙ kind-is doc (m .names) u o _ _ _ (s .value)
 
   -- the type byte is the byte at o; `Bytes doc` says that each item of the document is a byte, as of every lent `&[u8]`
   pub number-answer : Bytes doc → (s : Bool) (k : ℕ) → StandsFor doc (m .names) (m .keys) o (num s k)
       → (bits : ℕ) × (ask (numberAt doc list o) ≡ answers (record { type = getD doc o 0; bits = bits })) × (valueOf (record { type = getD doc o 0; bits = bits }) ≡ num s k)
   unfolding numberAt
-  number-answer bytes s k n =
-      let (b, e, v) = number-is doc (m .names) bytes s k o _ (n .value .0) in
-      (b, asked doc (m .names) list (m .listed) (m .headed) o _ (num s k) _ _ _ (below (num s k) n .0) (n .value) ∙ e, v)
+  number-answer bytes s k n = let (b, e, v) = number-is doc (m .names) bytes s k o _ _ _ (n .value) in (b, opens _ ∙ e, v)
 
   pub number-wrong : (u : Tree) → StandsFor doc (m .names) (m .keys) o u → NoNumber u → ask (numberAt doc list o) ≡ refuses 21 o
   unfolding numberAt
-  number-wrong u s n = asked doc (m .names) list (m .listed) (m .headed) o _ u _ _ _ (below u s .0) (s .value) ∙ no-number doc (m .names) u o _ _ _ (s .value) n
+  number-wrong u s n = opens _ ∙ no-number doc (m .names) u o _ _ _ (s .value) n
 
   -- the length is the text's, and the text ends where the value does
   pub string-answer : (x : List ℕ) (s : StandsFor doc (m .names) (m .keys) o (str x))
       → (p : ℕ) × (ask (stringAt doc list o) ≡ answers (record { place = p; len = length x })) × (part doc p (length x) ≡ x) × (p + length x ≡ s .past)
-  string-answer x s = string-is doc (m .names) list (m .listed) (m .headed) o (below (str x) s .0) x _ _ _ (s .value)
+  unfolding stringAt
+  string-answer x s = let (p, e, v, past) = string-is doc (m .names) o x _ _ _ (s .value) in (p, opens _ ∙ e, v, past)
 
   pub string-bytes : (x : List ℕ) → StandsFor doc (m .names) (m .keys) o (str x) → stringBytes doc list o ≡ x
   string-bytes x s = let (p, e, v, past) = string-answer x s in rw e v
 
   pub string-wrong : (u : Tree) → StandsFor doc (m .names) (m .keys) o u → NoString u → ask (stringAt doc list o) ≡ refuses 21 o
-  unfolding stringAt
-  string-wrong u s n = stops _ _ tt (no-string doc (m .names) list (m .listed) (m .headed) o (below u s .0) u _ _ _ (s .value) n)
+  unfolding stringAt stringHere
+  string-wrong u s n = opens _ ∙ stops _ _ tt (no-string doc (m .names) o u _ _ _ (s .value) n)
 
   pub string-bytes-wrong : (u : Tree) → StandsFor doc (m .names) (m .keys) o u → NoString u → stringBytes doc list o ≡ []
   string-bytes-wrong u s n = rw (string-wrong u s n)
@@ -299,13 +294,13 @@ module _ (doc list : List ℕ) (t : Tree) (m : Means doc list t) (words : List �
         let (b, sub) = below doc list t m l u s in
         let d = subtree-depth t sub in
         let n = m .nested in
-        then _ _ tt (opening-is doc (m .names) list (m .listed) (m .headed) o b) ∙ walks-value doc list (m .names) (m .listed) (m .keys) _ _ holds u deepest o _ _ _ (s .value) (s .first) (omega arith)
+        opens doc list t m l _ ∙ walks-value doc list (m .names) (m .listed) (m .keys) _ _ holds u deepest o _ _ _ (s .value) (s .first) (omega arith)
 
     -- ---- element i
 
     pub element-answer : (ts : Trees) (i : ℕ) → StandsFor doc (m .names) (m .keys) o (arr ts) → i < size ts
         → ElementAnswer doc (m .names) (m .keys) ts i (ask (elementAt doc list (checked doc list words .words) (checked doc list words .count) o i))
-    unfolding elementAt elementFrom
+    unfolding elementAt elementHere elementFrom
     element-answer ts i s h =
         let (b, sub) = below doc list t m l (arr ts) s in
         let d = subtree-depth t sub in
@@ -319,8 +314,8 @@ module _ (doc list : List ℕ) (t : Tree) (m : Means doc list t) (words : List �
           place = elementPlace doc o x i;
           tree = v;
           answered =
-              then _ _ tt (array-length doc (m .names) list (m .listed) (m .headed) o b ts _ _ _ (s .value))
-              ∙ (pass _ _ _ _ tt (lt→ltb _ _ h) ∙ walks-to-element doc list (m .names) (m .listed) (m .keys) _ _ holds ts i _ _ _ _ (s .value .3) (s .first) (omega arith) h);
+              opens doc list t m l _
+              ∙ (then _ _ tt (array-length doc (m .names) o ts _ _ _ (s .value)) ∙ (pass _ _ _ _ tt (lt→ltb _ _ h) ∙ walks-to-element doc list (m .names) (m .listed) (m .keys) _ _ holds ts i _ _ _ _ (s .value .3) (s .first) (omega arith) h));
           led-to = element o x i l form (omega arith);
           stands = r;
           is-element = is;
@@ -328,21 +323,20 @@ module _ (doc list : List ℕ) (t : Tree) (m : Means doc list t) (words : List �
 
     pub element-past : (ts : Trees) (i : ℕ) → StandsFor doc (m .names) (m .keys) o (arr ts) → size ts ≤ i
         → ask (elementAt doc list (checked doc list words .words) (checked doc list words .count) o i) ≡ refuses 22 o
-    unfolding elementAt elementFrom
+    unfolding elementAt elementHere elementFrom
     element-past ts i s h =
-        let (b, sub) = below doc list t m l (arr ts) s in
-        then _ _ tt (array-length doc (m .names) list (m .listed) (m .headed) o b ts _ _ _ (s .value)) ∙ fail _ _ _ _ tt (λ y. let z = ltb→lt i (size ts) y in omega arith)
+        opens doc list t m l _ ∙ (then _ _ tt (array-length doc (m .names) o ts _ _ _ (s .value)) ∙ fail _ _ _ _ tt (past h))
 
     pub element-wrong : (u : Tree) (i : ℕ) → StandsFor doc (m .names) (m .keys) o u → NoArray u
         → ask (elementAt doc list (checked doc list words .words) (checked doc list words .count) o i) ≡ refuses 21 o
-    unfolding elementAt
-    element-wrong u i s n = stops _ _ tt (no-array doc (m .names) list (m .listed) (m .headed) o (below doc list t m l u s .0) u _ _ _ (s .value) n)
+    unfolding elementAt elementHere
+    element-wrong u i s n = opens doc list t m l _ ∙ stops _ _ tt (no-array doc (m .names) o u _ _ _ (s .value) n)
 
     -- ---- member j
 
     pub member-answer : (ms : Members) (j : ℕ) → StandsFor doc (m .names) (m .keys) o (obj ms) → j < sizem ms
         → MemberAnswer doc list (m .names) (m .keys) (checked doc list words .words) (checked doc list words .count) ms j (ask (memberAt doc list (checked doc list words .words) (checked doc list words .count) o j))
-    unfolding memberAt memberFrom passKey keyAt
+    unfolding memberAt memberHere memberFrom passKey keyAt
     member-answer ms j s h =
         let (b, sub) = below doc list t m l (obj ms) s in
         let d = subtree-depth t sub in
@@ -359,9 +353,9 @@ module _ (doc list : List ℕ) (t : Tree) (m : Means doc list t) (words : List �
           key = k;
           tree = v;
           answered =
-              then _ _ tt (object-length doc (m .names) list (m .listed) (m .headed) o b ms _ _ _ (s .value))
+              opens doc list t m l _ ∙ (then _ _ tt (object-length doc (m .names) o ms _ _ _ (s .value))
               ∙ (pass _ _ _ _ tt (lt→ltb _ _ h) ∙ (then _ _ tt (walks-to-member doc list (m .names) (m .listed) (m .keys) _ _ holds ms j _ _ _ _ (s .value .3) (s .first) (omega arith) h)
-              ∙ (then _ _ tt (then _ _ tt (read .answered)) ∙ ap (λ p. answers (record { key = keyPlace doc o x j; value = p })) (read .ends))));
+              ∙ (then _ _ tt (then _ _ tt (read .answered)) ∙ ap (λ p. answers (record { key = keyPlace doc o x j; value = p })) (read .ends)))));
           key-read = record {
             read = read .read;
             answered = then _ _ tt (opening-is doc (m .names) list (m .listed) (m .headed) _ on) ∙ read .answered;
@@ -376,26 +370,25 @@ module _ (doc list : List ℕ) (t : Tree) (m : Means doc list t) (words : List �
 
     pub member-past : (ms : Members) (j : ℕ) → StandsFor doc (m .names) (m .keys) o (obj ms) → sizem ms ≤ j
         → ask (memberAt doc list (checked doc list words .words) (checked doc list words .count) o j) ≡ refuses 22 o
-    unfolding memberAt memberFrom
+    unfolding memberAt memberHere memberFrom
     member-past ms j s h =
-        let (b, sub) = below doc list t m l (obj ms) s in
-        then _ _ tt (object-length doc (m .names) list (m .listed) (m .headed) o b ms _ _ _ (s .value)) ∙ fail _ _ _ _ tt (λ y. let z = ltb→lt j (sizem ms) y in omega arith)
+        opens doc list t m l _ ∙ (then _ _ tt (object-length doc (m .names) o ms _ _ _ (s .value)) ∙ fail _ _ _ _ tt (past h))
 
     pub member-wrong : (u : Tree) (j : ℕ) → StandsFor doc (m .names) (m .keys) o u → NoObject u
         → ask (memberAt doc list (checked doc list words .words) (checked doc list words .count) o j) ≡ refuses 21 o
-    unfolding memberAt
-    member-wrong u j s n = stops _ _ tt (no-object doc (m .names) list (m .listed) (m .headed) o (below doc list t m l u s .0) u _ _ _ (s .value) n)
+    unfolding memberAt memberHere
+    member-wrong u j s n = opens doc list t m l _ ∙ stops _ _ tt (no-object doc (m .names) o u _ _ _ (s .value) n)
 
     -- ---- the first member by key
 
     pub first-member-answer : (ms : Members) (x : List ℕ) → StandsFor doc (m .names) (m .keys) o (obj ms)
         → FirstMemberAnswer doc (m .names) (m .keys) ms x (ask (firstMember doc list (checked doc list words .words) (checked doc list words .count) o x))
-    unfolding firstMember
+    unfolding firstMember firstHere
     first-member-answer ms x s =
         let (b, sub) = below doc list t m l (obj ms) s in
         let d = subtree-depth t sub in
         let n = m .nested in
-        let begins = then _ _ tt (object-length doc (m .names) list (m .listed) (m .headed) o b ms _ _ _ (s .value)) in
+        let begins = opens doc list t m l _ ∙ then _ _ tt (object-length doc (m .names) o ms _ _ _ (s .value)) in
         led b sub begins (finds doc list (m .names) (m .listed) (m .keys) _ _ holds x ms (afterLength o (s .value .0)) _ _ _ (s .value .3) (s .first) (omega arith))
       where
         led : {r q : Asked Found} → 3 ≤ o → Subtree t (obj ms) → r ≡ q
@@ -411,5 +404,5 @@ module _ (doc list : List ℕ) (t : Tree) (m : Means doc list t) (words : List �
 
     pub first-member-wrong : (u : Tree) (x : List ℕ) → StandsFor doc (m .names) (m .keys) o u → NoObject u
         → ask (firstMember doc list (checked doc list words .words) (checked doc list words .count) o x) ≡ refuses 21 o
-    unfolding firstMember
-    first-member-wrong u x s n = stops _ _ tt (no-object doc (m .names) list (m .listed) (m .headed) o (below doc list t m l u s .0) u _ _ _ (s .value) n)
+    unfolding firstMember firstHere
+    first-member-wrong u x s n = opens doc list t m l _ ∙ stops _ _ tt (no-object doc (m .names) o u _ _ _ (s .value) n)

@@ -19,9 +19,9 @@ use Rattle.fractured_json_rules.specs.KeyList.{met, namesFrom, keyList, 
 use Rattle.fractured_json_rules.specs.Verdict.{header, byteAt, payload, lengthAt, textAt, afterSecond, afterFirst, keyNumberAt, inTurn, member, valueBy, value}
 use Rattle.fractured_json_rules.specs.Verdict.{keyBy, newKey, oldKey, listedKey, checkKey, document, check, verdict}
 use Rattle.fractured_json_rules.specs.KeyTable.{roomOf, stored, Checked, checked}
-use Rattle.fractured_json_rules.specs.Questions.{opening, typeAt, theDocument, theList, KeyRead, textKey, backKey, nameKey, readKey, passKey, inner, endOf, Kind, isNull, isFalse, isTrue, isNumber}
-use Rattle.fractured_json_rules.specs.Questions.{isString, isObject, isArray, kindBy, kind, numberBy, wantedBy, wantedAt, stringBytes}
-use Rattle.fractured_json_rules.specs.Questions.{elementFrom, memberFrom, Found, valueAt, findFrom, findIn, firstMember, keyBytes}
+use Rattle.fractured_json_rules.specs.Questions.{opening, theDocument, theList, KeyRead, textKey, backKey, nameKey, readKey, passKey, inner, endOf, Kind, isNull, isFalse, isTrue, isNumber}
+use Rattle.fractured_json_rules.specs.Questions.{isString, isObject, isArray, kindBy, kindHere, kind, numberBy, numberHere, wantedBy, wantedHere, stringHere, stringBytes}
+use Rattle.fractured_json_rules.specs.Questions.{elementFrom, elementHere, memberFrom, memberHere, Found, valueAt, findFrom, findIn, firstHere, firstMember, keyBytes}
 use Rattle.fractured_json_rules.specs.Questions as Questions
 use Rattle.fractured_json_rules.proofs.KeyList.{list-is}
 
@@ -420,6 +420,6 @@ lines =
 
 pub questions-say : map (λ l. put (l .doc) (l .list) (l .table) (l .count) (l .question)) lines ≡ map (λ l. l .says) lines
 unfolding follow _>>=_ need choose number finite byNumbers compareTexts formOf keyFormOf header byteAt payload lengthAt textAt afterSecond afterFirst keyNumberAt
-    inTurn member valueBy value keyBy met namesFrom keyList steps nameOf roomOf opening typeAt textKey backKey nameKey readKey passKey endOf kindBy kind numberBy Questions.numberAt wantedBy wantedAt
-    Questions.stringAt elementFrom Questions.elementAt memberFrom Questions.memberAt findFrom findIn firstMember Questions.keyAt
+    inTurn member valueBy value keyBy met namesFrom keyList steps nameOf roomOf opening textKey backKey nameKey readKey passKey endOf kindBy kindHere kind numberBy numberHere
+    Questions.numberAt wantedBy wantedHere stringHere Questions.stringAt elementFrom elementHere Questions.elementAt memberFrom memberHere Questions.memberAt findFrom findIn firstHere firstMember Questions.keyAt
 questions-say = refl

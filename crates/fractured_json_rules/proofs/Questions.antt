@@ -1,4 +1,5 @@
--- The questions that read only a value's own bytes: its kind, its number and its string; and the wrong kind, which is 21.
+-- The questions that read only a value's own bytes: its kind, its number and its string; and the wrong kind, which is 21. Each is
+-- what is asked after the opening, which passes in a good document with a good key list.
 use Prim.Native.Nat.{ℕ, _+_, _≤_, _<_}
 use mathlib.Core.Bool.{Bool, true, false}
 use mathlib.Core.List.{List}
@@ -13,8 +14,8 @@ use Rattle.json.proofs.Bytes.{number-small}
 use Rattle.json.proofs.Reading.{then, pass, need-yes}
 use Rattle.fractured_json_rules.specs.ByteTables.{bytes, formOf}
 use Rattle.fractured_json_rules.specs.Meaning.{afterLength, TextIs, NumberIs, asTiny, asInt, asFloat, Names, Lists, Keys, ValueIs, Headed}
-use Rattle.fractured_json_rules.specs.Verdict.{numeral}
-use Rattle.fractured_json_rules.specs.Questions.{opening, typeAt, kindBy, extended, tinyBits, numberBy, aString, anObject, anArray, wantedBy, wantedAt, stringAt}
+use Rattle.fractured_json_rules.specs.Verdict.{numeral, byteAt}
+use Rattle.fractured_json_rules.specs.Questions.{opening, kindBy, kindHere, extended, tinyBits, numberBy, numberHere, aString, anObject, anArray, wantedBy, wantedHere, stringHere}
 use Rattle.fractured_json_rules.specs.Answers.{kindOf, valueBy, valueOf}
 use Rattle.fractured_json_rules.proofs.KeyList.{list-is}
 use Rattle.fractured_json_rules.proofs.Nodes.{value-form}
@@ -42,11 +43,9 @@ module _ (doc : List ℕ) (names : Names) where
   unfolding opening
   opening-is list l h o b = then _ _ tt (list-is list names tt l) ∙ (then _ _ tt (header-is doc tt h) ∙ need-yes _ _ _ tt (le→leb _ _ b))
 
-  -- every question but the end and the key begins so
-  pub asked : (list : List ℕ) → Lists list names → Headed doc → {A : Type 0} (o : ℕ) (by : ℕ → Reading (Unit {0}) A) (u : Tree) (ks : Keys) (e : ℕ) (kz : Keys) → 3 ≤ o → ValueIs doc names u o ks e kz
-      → ask (typeAt doc list o >>= by) ≡ ask (by (getD doc o 0))
-  unfolding typeAt
-  asked list l h o by u ks e kz b v = then _ _ tt (then _ _ tt (opening-is list l h o b) ∙ byte-is doc o o tt (value-inside u o ks e kz v))
+  -- every question but the end and the key goes on with the type byte
+  asked : {A : Type 0} (o : ℕ) (by : ℕ → Reading (Unit {0}) A) (u : Tree) (ks : Keys) (e : ℕ) (kz : Keys) → ValueIs doc names u o ks e kz → ask (byteAt doc o o >>= by) ≡ ask (by (getD doc o 0))
+  asked o by u ks e kz v = then _ _ tt (byte-is doc o o tt (value-inside u o ks e kz v))
 
   -- ---- its kind
 
@@ -56,88 +55,98 @@ module _ (doc : List ℕ) (names : Names) where
   number-kind s m o e (asInt g w st i p q) = rw (st .form-is)
   number-kind s m o e (asFloat f w st i n p q) = rw (st .form-is)
 
-  pub kind-is : (u : Tree) (o : ℕ) (ks : Keys) (e : ℕ) (kz : Keys) → ValueIs doc names u o ks e kz → ask (kindBy doc o (formOf (getD doc o 0))) ≡ answers (kindOf u)
+  kind-by : (u : Tree) (o : ℕ) (ks : Keys) (e : ℕ) (kz : Keys) → ValueIs doc names u o ks e kz → ask (kindBy doc o (formOf (getD doc o 0))) ≡ answers (kindOf u)
   unfolding kindBy kindOf
-  kind-is null o ks e kz h = rw (h .0 .form-is)
-  kind-is (bool false) o ks e kz h = rw (h .0 .form-is)
-  kind-is (bool true) o ks e kz h = rw (h .0 .form-is)
-  kind-is (num s m) o ks e kz h = number-kind s m o e (h .0)
-  kind-is (str t) o ks e kz h =
+  kind-by null o ks e kz h = rw (h .0 .form-is)
+  kind-by (bool false) o ks e kz h = rw (h .0 .form-is)
+  kind-by (bool true) o ks e kz h = rw (h .0 .form-is)
+  kind-by (num s m) o ks e kz h = number-kind s m o e (h .0)
+  kind-by (str t) o ks e kz h =
       rw (h .2 .form-is, text-length t _ _ (h .4)) (then _ _ tt (length-is doc o (h .0) (h .1) tt (h .3)))
-  kind-is (arr ts) o ks e kz h = rw (h .1 .form-is) (then _ _ tt (length-is doc o (h .0) (size ts) tt (h .2)))
-  kind-is (obj ms) o ks e kz h = rw (h .1 .form-is) (then _ _ tt (length-is doc o (h .0) (sizem ms) tt (h .2)))
+  kind-by (arr ts) o ks e kz h = rw (h .1 .form-is) (then _ _ tt (length-is doc o (h .0) (size ts) tt (h .2)))
+  kind-by (obj ms) o ks e kz h = rw (h .1 .form-is) (then _ _ tt (length-is doc o (h .0) (sizem ms) tt (h .2)))
+
+  pub kind-is : (u : Tree) (o : ℕ) (ks : Keys) (e : ℕ) (kz : Keys) → ValueIs doc names u o ks e kz → ask (kindHere doc o) ≡ answers (kindOf u)
+  unfolding kindHere
+  kind-is u o ks e kz v = asked o _ u ks e kz v ∙ kind-by u o ks e kz v
 
   -- ---- its number
 
-  pub number-is : Bytes doc → (s : Bool) (m o e : ℕ) → NumberIs doc (num s m) o e
+  number-by : Bytes doc → (s : Bool) (m o e : ℕ) → NumberIs doc (num s m) o e
       → (n : ℕ) × (ask (numberBy doc o (getD doc o 0) (formOf (getD doc o 0))) ≡ answers (record { type = getD doc o 0; bits = n }))
       × (valueOf (record { type = getD doc o 0; bits = n }) ≡ num s m)
   unfolding numberBy valueBy
-  number-is bs s m o e (asTiny b st p q) =
+  number-by bs s m o e (asTiny b st p q) =
       let same = tiny-byte (getD doc o 0) b (st .form-is) in
       let small = bs o in
       (tinyBits b, rw (st .form-is), rw (st .form-is) (tiny-value b (omega arith) ∙ sym p))
-  number-is bs s m o e (asInt true w st i p q) =
+  number-by bs s m o e (asInt true w st i p q) =
       let n = number doc (o + 1) (bytes w) in (
         extended true (bytes w) n,
         rw (st .form-is) (then _ _ tt (payload-is doc o (bytes w) tt i)),
         rw (st .form-is) (int-value w n (number-small doc bs (o + 1) (bytes w)) ∙ sym p),
       )
-  number-is bs s m o e (asInt false w st i p q) =
+  number-by bs s m o e (asInt false w st i p q) =
       (number doc (o + 1) (bytes w), rw (st .form-is) (then _ _ tt (payload-is doc o (bytes w) tt i)), rw (st .form-is) (sym p))
-  number-is bs s m o e (asFloat f w st i n p q) =
+  number-by bs s m o e (asFloat f w st i n p q) =
       (number doc (o + 1) (bytes w), rw (st .form-is) (then _ _ tt (payload-is doc o (bytes w) tt i) ∙ pass _ _ _ _ tt n), rw (st .form-is) (sym p))
+
+  pub number-is : Bytes doc → (s : Bool) (m o : ℕ) (ks : Keys) (e : ℕ) (kz : Keys) → ValueIs doc names (num s m) o ks e kz
+      → (n : ℕ) × (ask (numberHere doc o) ≡ answers (record { type = getD doc o 0; bits = n })) × (valueOf (record { type = getD doc o 0; bits = n }) ≡ num s m)
+  unfolding numberHere
+  number-is bs s m o ks e kz v = let (n, is, same) = number-by bs s m o e (v .0) in (n, asked o _ (num s m) ks e kz v ∙ is, same)
 
   -- ---- the wrong kind of number
 
-  pub no-number : (u : Tree) (o : ℕ) (ks : Keys) (e : ℕ) (kz : Keys) → ValueIs doc names u o ks e kz → NoNumber u → ask (numberBy doc o (getD doc o 0) (formOf (getD doc o 0))) ≡ refuses 21 o
-  unfolding numberBy
+  pub no-number : (u : Tree) (o : ℕ) (ks : Keys) (e : ℕ) (kz : Keys) → ValueIs doc names u o ks e kz → NoNumber u → ask (numberHere doc o) ≡ refuses 21 o
+  unfolding numberHere numberBy
   no-number u o ks e kz v n =
-      value-form doc names (λ f. ask (numberBy doc o (getD doc o 0) f) ≡ refuses 21 o) u o ks e kz v
+      asked o _ u ks e kz v
+      ∙ value-form doc names (λ f. ask (numberBy doc o (getD doc o 0) f) ≡ refuses 21 o) u o ks e kz v
       (λ _. refl) (λ b _. refl) (λ s m q. absurd (n s m q)) (λ t x _. refl) (λ ts x _. refl) (λ ms x _. refl)
 
   -- ---- the length of a string, an array and an object, and the wrong kind
 
-  module _ (list : List ℕ) (l : Lists list names) (h : Headed doc) (o : ℕ) (b : 3 ≤ o) where
-    string-length : (t : List ℕ) (ks : Keys) (e : ℕ) (kz : Keys) (v : ValueIs doc names (str t) o ks e kz) → ask (wantedAt doc list o aString) ≡ answers (numeral (v .1) (afterLength o (v .0)))
-    unfolding wantedAt wantedBy
-    string-length t ks e kz v = asked list l h o _ (str t) ks e kz b v ∙ rw (v .2 .form-is) (length-is doc o (v .0) (v .1) tt (v .3))
+  module _ (o : ℕ) where
+    string-length : (t : List ℕ) (ks : Keys) (e : ℕ) (kz : Keys) (v : ValueIs doc names (str t) o ks e kz) → ask (wantedHere doc o aString) ≡ answers (numeral (v .1) (afterLength o (v .0)))
+    unfolding wantedHere wantedBy
+    string-length t ks e kz v = asked o _ (str t) ks e kz v ∙ rw (v .2 .form-is) (length-is doc o (v .0) (v .1) tt (v .3))
 
-    pub array-length : (ts : Trees) (ks : Keys) (e : ℕ) (kz : Keys) (v : ValueIs doc names (arr ts) o ks e kz) → ask (wantedAt doc list o anArray) ≡ answers (numeral (size ts) (afterLength o (v .0)))
-    unfolding wantedAt wantedBy
-    array-length ts ks e kz v = asked list l h o _ (arr ts) ks e kz b v ∙ rw (v .1 .form-is) (length-is doc o (v .0) (size ts) tt (v .2))
+    pub array-length : (ts : Trees) (ks : Keys) (e : ℕ) (kz : Keys) (v : ValueIs doc names (arr ts) o ks e kz) → ask (wantedHere doc o anArray) ≡ answers (numeral (size ts) (afterLength o (v .0)))
+    unfolding wantedHere wantedBy
+    array-length ts ks e kz v = asked o _ (arr ts) ks e kz v ∙ rw (v .1 .form-is) (length-is doc o (v .0) (size ts) tt (v .2))
 
-    pub object-length : (ms : Members) (ks : Keys) (e : ℕ) (kz : Keys) (v : ValueIs doc names (obj ms) o ks e kz) → ask (wantedAt doc list o anObject) ≡ answers (numeral (sizem ms) (afterLength o (v .0)))
-    unfolding wantedAt wantedBy
-    object-length ms ks e kz v = asked list l h o _ (obj ms) ks e kz b v ∙ rw (v .1 .form-is) (length-is doc o (v .0) (sizem ms) tt (v .2))
+    pub object-length : (ms : Members) (ks : Keys) (e : ℕ) (kz : Keys) (v : ValueIs doc names (obj ms) o ks e kz) → ask (wantedHere doc o anObject) ≡ answers (numeral (sizem ms) (afterLength o (v .0)))
+    unfolding wantedHere wantedBy
+    object-length ms ks e kz v = asked o _ (obj ms) ks e kz v ∙ rw (v .1 .form-is) (length-is doc o (v .0) (sizem ms) tt (v .2))
 
     module _ (u : Tree) (ks : Keys) (e : ℕ) (kz : Keys) (v : ValueIs doc names u o ks e kz) where
-      pub no-string : NoString u → ask (wantedAt doc list o aString) ≡ refuses 21 o
-      unfolding wantedAt wantedBy
+      pub no-string : NoString u → ask (wantedHere doc o aString) ≡ refuses 21 o
+      unfolding wantedHere wantedBy
       no-string n =
-          asked list l h o _ u ks e kz b v
+          asked o _ u ks e kz v
           ∙ value-form doc names (λ f. ask (wantedBy doc o f aString) ≡ refuses 21 o) u o ks e kz v
           (λ _. refl) (λ b _. refl) (λ s m _. (λ b. refl, λ g w. refl, λ f w. refl)) (λ t x q. absurd (n t q)) (λ ts x _. refl) (λ ms x _. refl)
 
-      pub no-array : NoArray u → ask (wantedAt doc list o anArray) ≡ refuses 21 o
-      unfolding wantedAt wantedBy
+      pub no-array : NoArray u → ask (wantedHere doc o anArray) ≡ refuses 21 o
+      unfolding wantedHere wantedBy
       no-array n =
-          asked list l h o _ u ks e kz b v
+          asked o _ u ks e kz v
           ∙ value-form doc names (λ f. ask (wantedBy doc o f anArray) ≡ refuses 21 o) u o ks e kz v
           (λ _. refl) (λ b _. refl) (λ s m _. (λ b. refl, λ g w. refl, λ f w. refl)) (λ t x _. refl) (λ ts x q. absurd (n ts q)) (λ ms x _. refl)
 
-      pub no-object : NoObject u → ask (wantedAt doc list o anObject) ≡ refuses 21 o
-      unfolding wantedAt wantedBy
+      pub no-object : NoObject u → ask (wantedHere doc o anObject) ≡ refuses 21 o
+      unfolding wantedHere wantedBy
       no-object n =
-          asked list l h o _ u ks e kz b v
+          asked o _ u ks e kz v
           ∙ value-form doc names (λ f. ask (wantedBy doc o f anObject) ≡ refuses 21 o) u o ks e kz v
           (λ _. refl) (λ b _. refl) (λ s m _. (λ b. refl, λ g w. refl, λ f w. refl)) (λ t x _. refl) (λ ts x _. refl) (λ ms x q. absurd (n ms q))
 
     -- ---- its string
 
     pub string-is : (t : List ℕ) (ks : Keys) (e : ℕ) (kz : Keys) → ValueIs doc names (str t) o ks e kz
-        → (p : ℕ) × (ask (stringAt doc list o) ≡ answers (record { place = p; len = length t })) × (part doc p (length t) ≡ t) × (p + length t ≡ e)
-    unfolding stringAt
+        → (p : ℕ) × (ask (stringHere doc o) ≡ answers (record { place = p; len = length t })) × (part doc p (length t) ≡ t) × (p + length t ≡ e)
+    unfolding stringHere
     string-is t ks e kz v =
         let len = text-length t _ _ (v .4) in (
           afterLength o (v .0),

@@ -20,19 +20,14 @@ use Rattle.fractured_json_rules.specs.KeyList.{countIn, keyList, nameOf}
 use Rattle.fractured_json_rules.specs.Verdict.{header, byteAt, payload, lengthAt, textAt, Numeral, inTurn, member, value, keyBy}
 use Rattle.fractured_json_rules.specs.KeyTable.{roomOf, keyOf}
 
--- ---- before every question, asked at the cursor c
+-- ---- Before every question, asked at the cursor c. What a question asks after it has a name of its own (`..Here`; the end's is
+-- `walk`, the key's `readKey`), so that a walk of many questions reads the key list and the header once.
 
 unfoldable pub opening : {S : Type 0} → List ℕ → List ℕ → ℕ → Reading S (Unit {0})
 opening doc list c = do
   keyList list
   header doc
   need (leb 3 c) 20 c
-
--- and before every question but the end and the key: the type byte
-unfoldable pub typeAt : {S : Type 0} → List ℕ → List ℕ → ℕ → Reading S ℕ
-typeAt doc list c = do
-  opening doc list c
-  byteAt doc c c
 
 -- ---- a key as a question reads it: back references go by the key table and count handed in, global indices by the key list
 
@@ -97,9 +92,7 @@ inner = deepest - 1
 -- ---- its end
 
 unfoldable pub endOf : {S : Type 0} → List ℕ → List ℕ → List ℕ → ℕ → ℕ → Reading S ℕ
-endOf doc list words count c = do
-  opening doc list c
-  walk deepest doc list words count c
+endOf doc list words count c = opening doc list c >> walk deepest doc list words count c
 
 -- ---- its kind, with the length of a string or container
 
@@ -125,10 +118,13 @@ kindBy doc c (fArray x) = do
   answer (isArray (n .is))
 kindBy doc c fReserved = refuse 36 c
 
-unfoldable pub kind : {S : Type 0} → List ℕ → List ℕ → ℕ → Reading S Kind
-kind doc list c = do
-  b ← typeAt doc list c
+unfoldable pub kindHere : {S : Type 0} → List ℕ → ℕ → Reading S Kind
+kindHere doc c = do
+  b ← byteAt doc c c
   kindBy doc c (formOf b)
+
+unfoldable pub kind : {S : Type 0} → List ℕ → List ℕ → ℕ → Reading S Kind
+kind doc list c = opening doc list c >> kindHere doc c
 
 -- ---- its number: type byte and 64 bits
 
@@ -160,10 +156,13 @@ numberBy doc c b (fObject x) = refuse 21 c
 numberBy doc c b (fArray x) = refuse 21 c
 numberBy doc c b fReserved = refuse 36 c
 
-unfoldable pub numberAt : {S : Type 0} → List ℕ → List ℕ → ℕ → Reading S Bits
-numberAt doc list c = do
-  b ← typeAt doc list c
+unfoldable pub numberHere : {S : Type 0} → List ℕ → ℕ → Reading S Bits
+numberHere doc c = do
+  b ← byteAt doc c c
   numberBy doc c b (formOf b)
+
+unfoldable pub numberAt : {S : Type 0} → List ℕ → List ℕ → ℕ → Reading S Bits
+numberAt doc list c = opening doc list c >> numberHere doc c
 
 -- ---- the length of a string, an object or an array
 
@@ -188,18 +187,21 @@ wantedBy doc c (fArray x) anObject = refuse 21 c
 wantedBy doc c (fArray x) anArray = lengthAt doc c x
 wantedBy doc c fReserved want = refuse 36 c
 
-unfoldable pub wantedAt : {S : Type 0} → List ℕ → List ℕ → ℕ → Wanted → Reading S Numeral
-wantedAt doc list c want = do
-  b ← typeAt doc list c
+unfoldable pub wantedHere : {S : Type 0} → List ℕ → ℕ → Wanted → Reading S Numeral
+wantedHere doc c want = do
+  b ← byteAt doc c c
   wantedBy doc c (formOf b) want
 
 -- ---- its string, both ways
 
-unfoldable pub stringAt : {S : Type 0} → List ℕ → List ℕ → ℕ → Reading S Span
-stringAt doc list c = do
-  n ← wantedAt doc list c aString
+unfoldable pub stringHere : {S : Type 0} → List ℕ → ℕ → Reading S Span
+stringHere doc c = do
+  n ← wantedHere doc c aString
   _ ← textAt doc c n
   answer (record { place = n .past; len = n .is })
+
+unfoldable pub stringAt : {S : Type 0} → List ℕ → List ℕ → ℕ → Reading S Span
+stringAt doc list c = opening doc list c >> stringHere doc c
 
 -- the second way: the text itself
 abbrev pub stringBytes : List ℕ → List ℕ → ℕ → List ℕ
@@ -213,10 +215,13 @@ elementFrom doc list words count c i n at = do
   need (ltb i n) 22 c
   inTurn (walk inner doc list words count) i at
 
-unfoldable pub elementAt : {S : Type 0} → List ℕ → List ℕ → List ℕ → ℕ → ℕ → ℕ → Reading S ℕ
-elementAt doc list words count c i = do
-  n ← wantedAt doc list c anArray
+unfoldable pub elementHere : {S : Type 0} → List ℕ → List ℕ → List ℕ → ℕ → ℕ → ℕ → Reading S ℕ
+elementHere doc list words count c i = do
+  n ← wantedHere doc c anArray
   elementFrom doc list words count c i (n .is) (n .past)
+
+unfoldable pub elementAt : {S : Type 0} → List ℕ → List ℕ → List ℕ → ℕ → ℕ → ℕ → Reading S ℕ
+elementAt doc list words count c i = opening doc list c >> elementHere doc list words count c i
 
 -- where the key byte and the value of member j stand
 pub record MemberAt : Type 0 where
@@ -230,10 +235,13 @@ memberFrom doc list words count c j n at = do
   v ← passKey doc list words count o
   answer (record { key = o; value = v })
 
-unfoldable pub memberAt : {S : Type 0} → List ℕ → List ℕ → List ℕ → ℕ → ℕ → ℕ → Reading S MemberAt
-memberAt doc list words count c j = do
-  n ← wantedAt doc list c anObject
+unfoldable pub memberHere : {S : Type 0} → List ℕ → List ℕ → List ℕ → ℕ → ℕ → ℕ → Reading S MemberAt
+memberHere doc list words count c j = do
+  n ← wantedHere doc c anObject
   memberFrom doc list words count c j (n .is) (n .past)
+
+unfoldable pub memberAt : {S : Type 0} → List ℕ → List ℕ → List ℕ → ℕ → ℕ → ℕ → Reading S MemberAt
+memberAt doc list words count c j = opening doc list c >> memberHere doc list words count c j
 
 -- where the value of the first member with the key x stands, or absent
 pub data Found : Type 0 where
@@ -253,18 +261,19 @@ unfoldable pub findIn : {S : Type 0} → List ℕ → List ℕ → List ℕ → 
 findIn doc list words count x zero at = answer absent
 findIn doc list words count x (suc later) at = findFrom doc list words count x later at
 
-unfoldable pub firstMember : {S : Type 0} → List ℕ → List ℕ → List ℕ → ℕ → ℕ → List ℕ → Reading S Found
-firstMember doc list words count c x = do
-  n ← wantedAt doc list c anObject
+unfoldable pub firstHere : {S : Type 0} → List ℕ → List ℕ → List ℕ → ℕ → ℕ → List ℕ → Reading S Found
+firstHere doc list words count c x = do
+  n ← wantedHere doc c anObject
   findIn doc list words count x (n .is) (n .past)
+
+unfoldable pub firstMember : {S : Type 0} → List ℕ → List ℕ → List ℕ → ℕ → ℕ → List ℕ → Reading S Found
+firstMember doc list words count c x = opening doc list c >> firstHere doc list words count c x
 
 -- ---- a key at its key byte, both ways; refusals in 01's key order, without 39 and 40: 35, 36, v_uint16 byte by byte, text 35,
 -- or 38
 
 unfoldable pub keyAt : {S : Type 0} → List ℕ → List ℕ → List ℕ → ℕ → ℕ → Reading S KeyRead
-keyAt doc list words count c = do
-  opening doc list c
-  readKey doc list words count c
+keyAt doc list words count c = opening doc list c >> readKey doc list words count c
 
 -- the second way: the text itself, a part of the document or of the key list; empty at a refusal
 abbrev pub textBy : List ℕ → List ℕ → Asked KeyRead → List ℕ

@@ -5,17 +5,17 @@ use Prim.Native.Nat.{ℕ, _≤_, _<_}
 use borrow.Author.Needs.{needs}
 use borrow.Author.Tests.{eq-eqb, ne-eqb}
 use lib.Dec.{le→leb}
-use lib.ListN.{length, getD}
+use lib.ListN.{length}
 use Rattle.json.specs.Choose.{choose}
-use Rattle.json.specs.Reading.{Reading, ask, answers, refuses, _>>=_, told}
+use Rattle.json.specs.Reading.{Reading, Asked, ask, answers, refuses, _>>=_, _>>_, told}
 use Rattle.json.specs.declared.Refusal.{Refusal}
 use Rattle.json.specs.declared.Verdict.{Verdict}
 use Rattle.json.proofs.Reading.{then, stops, need-yes, need-no}
 use Rattle.fractured_json_rules.specs.ByteTables.{formOf}
 use Rattle.fractured_json_rules.specs.KeyList.{keyList}
-use Rattle.fractured_json_rules.specs.Verdict.{header, numeral}
+use Rattle.fractured_json_rules.specs.Verdict.{header, numeral, byteAt}
 use Rattle.fractured_json_rules.specs.Verdict as Rules
-use Rattle.fractured_json_rules.specs.Questions.{opening, typeAt, Wanted, wantedAt}
+use Rattle.fractured_json_rules.specs.Questions.{opening, Wanted, wantedHere}
 use Rattle.fractured_json_rules.proofs.Readers.{byte-is, byte-past}
 use Rattle.fractured_json_values.specs.Heads.{headOf}
 use Rattle.fractured_json_values.specs.Opened.{sizedAt, ReadsNumeral}
@@ -49,60 +49,55 @@ module _ (doc list : List ℕ) (at : ℕ) (l : Verdict) (ls : told l ≡ ask (ke
 
 pub ruleset opening-laws = (list-refused, header-refused, cursor-low, cursor-good, needs)
 
+-- ---- a question: refused by the opening, or what it asks after it
+
+module _ {A : Type 0} (doc list : List ℕ) (at : ℕ) (rest : Reading (Unit {0}) A) (v : Verdict) (vs : told v ≡ ask (opening doc list at)) where
+  pub opening-refused : (r : Refusal) → v ≡ Verdict.Refused r → refuses (r .number) (r .place) ≡ ask (opening doc list at >> rest)
+  opening-refused r e = sym (stops _ _ tt (sym vs ∙ ap told e))
+
+  pub opening-passed : (r : Asked A) → v ≡ Verdict.Accepted → r ≡ ask rest → r ≡ ask (opening doc list at >> rest)
+  opening-passed r e h = h ∙ sym (then _ _ tt (sym vs ∙ ap told e))
+
 -- ---- the type byte
 
-module _ (doc list : List ℕ) (at : ℕ) (v : Verdict) (vs : told v ≡ ask (opening doc list at)) where
-  pub opening-refused : (r : Refusal) → v ≡ Verdict.Refused r → ask (typeAt doc list at) ≡ refuses (r .number) (r .place)
-  unfolding typeAt
-  opening-refused r e = stops _ _ tt (sym vs ∙ ap told e)
-
-  module _ (e : v ≡ Verdict.Accepted) where
-    pub byte-outside : length doc ≤ at → ask (typeAt doc list at) ≡ refuses 35 at
-    unfolding typeAt
-    byte-outside h = then _ _ tt (sym vs ∙ ap told e) ∙ byte-past doc at at tt h
-
-    pub byte-read : at < length doc → ask (typeAt doc list at) ≡ answers (getD doc at 0)
-    unfolding typeAt
-    byte-read h = then _ _ tt (sym vs ∙ ap told e) ∙ byte-is doc at at tt h
-
-pub ruleset enter-laws = (opening-refused, byte-outside, byte-read, needs)
+pub ruleset enter-laws = (byte-past, byte-is, needs)
 
 -- ---- what follows the type byte
 
-pub entered-inside : (doc list : List ℕ) (at : ℕ) (e : Entered) (b : ℕ) → Enters doc list at e → e ≡ Entered.Type b → at < length doc
-entered-inside doc list at e b h q = let w : Enters doc list at (Entered.Type b) = rw q at h in w .1
+pub entered-inside : (doc : List ℕ) (at : ℕ) (e : Entered) (b : ℕ) → Enters doc at e → e ≡ Entered.Type b → at < length doc
+entered-inside doc at e b h q = let w : Enters doc at (Entered.Type b) = rw q at h in w .1
 
-module _ {A : Type 0} (doc list : List ℕ) (at : ℕ) (f : ℕ → Reading (Unit {0}) A) (e : Entered) (es : Enters doc list at e) where
-  pub enters-refused : (r : Refusal) → e ≡ Entered.Refused r → ask (typeAt doc list at >>= f) ≡ refuses (r .number) (r .place)
+module _ {A : Type 0} (doc : List ℕ) (at : ℕ) (f : ℕ → Reading (Unit {0}) A) (e : Entered) (es : Enters doc at e) where
+  pub enters-refused : (r : Refusal) → e ≡ Entered.Refused r → ask (byteAt doc at at >>= f) ≡ refuses (r .number) (r .place)
   enters-refused r q = stops _ _ tt (rw q at es)
 
-  pub enters-read : (b : ℕ) → e ≡ Entered.Type b → ask (typeAt doc list at >>= f) ≡ ask (f b)
-  enters-read b q = let w : Enters doc list at (Entered.Type b) = rw q at es in then _ _ tt (w .0)
+  pub enters-read : (b : ℕ) → e ≡ Entered.Type b → ask (byteAt doc at at >>= f) ≡ ask (f b)
+  enters-read b q = let w : Enters doc at (Entered.Type b) = rw q at es in then _ _ tt (w .0)
 
 -- ---- a length, by the kind that is wanted
 
-module _ (doc list : List ℕ) (at want : ℕ) (e : Entered) (es : Enters doc list at e) where
-  pub wanted-refused : (r : Refusal) → e ≡ Entered.Refused r → ask (wantedIn doc list at want) ≡ refuses (r .number) (r .place)
+module _ (doc : List ℕ) (at want : ℕ) (e : Entered) (es : Enters doc at e) where
+  pub wanted-refused : (r : Refusal) → e ≡ Entered.Refused r → ask (wantedIn doc at want) ≡ refuses (r .number) (r .place)
   unfolding wantedIn
-  wanted-refused r q = enters-refused doc list at _ e es r q
+  wanted-refused r q = enters-refused doc at _ e es r q
 
   module _ (b : ℕ) (q : e ≡ Entered.Type b) (h : Head) (hs : h ≡ headOf (formOf b)) where
-    by-head : ask (wantedIn doc list at want) ≡ ask (wantedHead doc at want h)
+    by-head : ask (wantedIn doc at want) ≡ ask (wantedHead doc at want h)
     unfolding wantedIn
-    by-head = enters-read doc list at _ e es b q ∙ rw hs
+    by-head = enters-read doc at _ e es b q ∙ rw hs
 
-    pub wanted-reserved : h .kind ≡ 11 → ask (wantedIn doc list at want) ≡ refuses 36 at
+    pub wanted-reserved : h .kind ≡ 11 → ask (wantedIn doc at want) ≡ refuses 36 at
     unfolding wantedHead choose
     wanted-reserved k = by-head ∙ rw k
 
     module _ (n : h .kind ≡ 11 → ⊥) where
-      pub wanted-sized : (c : Numeral) → h .kind ≡ want → ReadsNumeral (length doc) (ask (sizedAt doc at (h .width) (h .tiny))) c → ReadsNumeral (length doc) (ask (wantedIn doc list at want)) c
+      pub wanted-sized : (c : Numeral) → h .kind ≡ want → ReadsNumeral (length doc) (ask (sizedAt doc at (h .width) (h .tiny))) c → ReadsNumeral (length doc) (ask (wantedIn doc at want)) c
       unfolding wantedHead choose
       wanted-sized c k s =
-          let e : ask (wantedIn doc list at want) ≡ ask (sizedAt doc at (h .width) (h .tiny)) = by-head ∙ rw (ne-eqb (h .kind) 11 n, eq-eqb (h .kind) want k) in
+          let e : ask (wantedIn doc at want) ≡ ask (sizedAt doc at (h .width) (h .tiny)) = by-head ∙ rw (ne-eqb (h .kind) 11 n, eq-eqb (h .kind) want k) in
           rw e s
 
-      pub wanted-other : (h .kind ≡ want → ⊥) → ask (wantedIn doc list at want) ≡ refuses 21 at
+      pub wanted-other : (h .kind ≡ want → ⊥) → ask (wantedIn doc at want) ≡ refuses 21 at
       unfolding wantedHead choose
       wanted-other k = by-head ∙ rw (ne-eqb (h .kind) 11 n, ne-eqb (h .kind) want k)
 
@@ -110,9 +105,9 @@ pub ruleset wanted-laws = (entered-inside, head-width, wanted-refused, wanted-re
 
 -- ---- a question of one kind, which goes on with its length
 
-module _ {A : Type 0} (doc list : List ℕ) (at : ℕ) (want : Wanted) (rest : Rules.Numeral → Reading (Unit {0}) A) (c : Numeral) (cs : ReadsNumeral (length doc) (ask (wantedIn doc list at (wantedKind want))) c) where
-  pub length-refused : (r : Refusal) → c ≡ Numeral.Refused r → ask (wantedAt doc list at want >>= rest) ≡ refuses (r .number) (r .place)
-  length-refused r q = stops _ _ tt (wanted-is doc at list want tt ∙ rw q at cs)
+module _ {A : Type 0} (doc : List ℕ) (at : ℕ) (want : Wanted) (rest : Rules.Numeral → Reading (Unit {0}) A) (c : Numeral) (cs : ReadsNumeral (length doc) (ask (wantedIn doc at (wantedKind want))) c) where
+  pub length-refused : (r : Refusal) → c ≡ Numeral.Refused r → ask (wantedHere doc at want >>= rest) ≡ refuses (r .number) (r .place)
+  length-refused r q = stops _ _ tt (wanted-is doc at want tt ∙ rw q at cs)
 
-  pub length-read : (n p : ℕ) → c ≡ Numeral.Is n p → ask (wantedAt doc list at want >>= rest) ≡ ask (rest (numeral n p))
-  length-read n p q = let w : ReadsNumeral (length doc) (ask (wantedIn doc list at (wantedKind want))) (Numeral.Is n p) = rw q at cs in then _ _ tt (wanted-is doc at list want tt ∙ w .0)
+  pub length-read : (n p : ℕ) → c ≡ Numeral.Is n p → ask (wantedHere doc at want >>= rest) ≡ ask (rest (numeral n p))
+  length-read n p q = let w : ReadsNumeral (length doc) (ask (wantedIn doc at (wantedKind want))) (Numeral.Is n p) = rw q at cs in then _ _ tt (wanted-is doc at want tt ∙ w .0)

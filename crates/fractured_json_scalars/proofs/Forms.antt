@@ -11,7 +11,7 @@ use Rattle.json.specs.Number.{binary32, binary64, finite}
 use Rattle.json.specs.Reading.{halt, Reading, answer, refuse, follow, _>>=_, need}
 use Rattle.fractured_json_rules.specs.ByteTables.{Width, one, two, four, eight, bytes, Form, fNull, fBool, fInt, fFloat, fTiny, fString, fObject, fArray, fReserved, formOf}
 use Rattle.fractured_json_rules.specs.Verdict.{Numeral}
-use Rattle.fractured_json_rules.specs.Questions.{kindBy, isString, isObject, isArray, extended, tinyBits, numberBy, Wanted, aString, anObject, anArray, wantedBy, wantedAt}
+use Rattle.fractured_json_rules.specs.Questions.{kindBy, isString, isObject, isArray, extended, tinyBits, numberBy, Wanted, aString, anObject, anArray, wantedBy, wantedHere}
 use Rattle.fractured_json_values.specs.Heads.{headOf}
 use Rattle.fractured_json_values.specs.Opened.{sizedAt, finiteKind}
 use Rattle.fractured_json_scalars.specs.Asked.{wantedHead, wantedIn, scalarKind, sizedKind, kindHead, bitsOf, numberKind, numberHead}
@@ -62,9 +62,9 @@ module _ {S : Type 0} (doc : List ℕ) (c : ℕ) where
   wanted-form anArray (fArray x) s = ap (λ m. m s) (length-sized doc c x)
   wanted-form want fReserved s = refl
 
-  pub wanted-is : (list : List ℕ) (want : Wanted) (s : S) → wantedAt doc list c want s ≡ wantedIn doc list c (wantedKind want) s
-  unfolding wantedAt wantedIn
-  wanted-is list want s = then-same _ _ _ s (λ b z. wanted-form want (formOf b) z)
+  pub wanted-is : (want : Wanted) (s : S) → wantedHere doc c want s ≡ wantedIn doc c (wantedKind want) s
+  unfolding wantedHere wantedIn
+  wanted-is want s = then-same _ _ _ s (λ b z. wanted-form want (formOf b) z)
 
   -- ---- a kind
 

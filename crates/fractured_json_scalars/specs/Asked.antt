@@ -9,8 +9,8 @@ use lib.ListN.{length}
 use Rattle.json.specs.Choose.{choose}
 use Rattle.json.specs.Reading.{Reading, ask, answers, refuses, answer, refuse, _>>=_, _>>_, need}
 use Rattle.fractured_json_rules.specs.ByteTables.{formOf}
-use Rattle.fractured_json_rules.specs.Verdict.{Numeral}
-use Rattle.fractured_json_rules.specs.Questions.{typeAt, Kind, isNull, isFalse, isTrue, isNumber, isString, isObject, isArray, Bits, extended, tinyBits}
+use Rattle.fractured_json_rules.specs.Verdict.{Numeral, byteAt}
+use Rattle.fractured_json_rules.specs.Questions.{Kind, isNull, isFalse, isTrue, isNumber, isString, isObject, isArray, Bits, extended, tinyBits}
 use Rattle.fractured_json_values.specs.Heads.{headOf}
 use Rattle.fractured_json_values.specs.Opened.{sizedAt, finiteKind}
 use Rattle.fractured_json_values.specs.declared.types.Head.{Head}
@@ -18,18 +18,18 @@ use Rattle.fractured_json_scalars.specs.declared.enter.Entered.{Entered}
 
 -- ---- the type byte at the cursor
 
-abbrev pub Enters : List ℕ → List ℕ → ℕ → Entered → Type 0
-Enters doc list c (Entered.Type b) = (ask (typeAt doc list c) ≡ answers b) × (c < length doc)
-Enters doc list c (Entered.Refused r) = ask (typeAt doc list c) ≡ refuses (r .number) (r .place)
+abbrev pub Enters : List ℕ → ℕ → Entered → Type 0
+Enters doc c (Entered.Type b) = (ask (byteAt doc c c) ≡ answers b) × (c < length doc)
+Enters doc c (Entered.Refused r) = ask (byteAt doc c c) ≡ refuses (r .number) (r .place)
 
 -- ---- the length of a string (8), object (9) or array (10), and where what it measures starts; 21 of any other kind
 
 unfoldable pub wantedHead : {S : Type 0} → List ℕ → ℕ → ℕ → Head → Reading S Numeral
 wantedHead doc c want h = choose (eqb (h .kind) 11) (refuse 36 c) (choose (eqb (h .kind) want) (sizedAt doc c (h .width) (h .tiny)) (refuse 21 c))
 
-unfoldable pub wantedIn : {S : Type 0} → List ℕ → List ℕ → ℕ → ℕ → Reading S Numeral
-wantedIn doc list c want = do
-  b ← typeAt doc list c
+unfoldable pub wantedIn : {S : Type 0} → List ℕ → ℕ → ℕ → Reading S Numeral
+wantedIn doc c want = do
+  b ← byteAt doc c c
   wantedHead doc c want (headOf (formOf b))
 
 -- ---- kinds

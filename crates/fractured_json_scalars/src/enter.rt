@@ -1,4 +1,5 @@
-// What every question reads first: the key list, the header, the cursor, and the type byte that stands there.
+// What every question reads first: the key list, the header and the cursor. Then what most of them go on with: the type byte at the
+// cursor, and the length of a value of the kind that is wanted.
 use fractured_json_list::check_list;
 use fractured_json_values::header::read_header;
 use fractured_json_values::types::head_of;
@@ -44,29 +45,23 @@ pub enum Entered {
     Refused(Refusal),
 }
 
-pub(crate) fn enter(doc: &[u8], list: &[u8], at: usize) -> Entered
-    ensures { λ r. ⌜ Enters (now (doc .entry)) (now (list .entry)) at r ⌝ }
+pub(crate) fn enter(doc: &[u8], at: usize) -> Entered
+    ensures { λ r. ⌜ Enters (now (doc .entry)) at r ⌝ }
 {
-    let o = open_question(doc, list, at);
-    match o {
-        Verdict::Refused(r) => Entered::Refused(r),
-        Verdict::Accepted => {
-            if doc.len() <= at {
-                return Entered::Refused(Refusal {
-                    number: 35,
-                    place: at,
-                });
-            }
-            Entered::Type(doc[at])
-        }
+    if doc.len() <= at {
+        return Entered::Refused(Refusal {
+            number: 35,
+            place: at,
+        });
     }
+    Entered::Type(doc[at])
 }
 
 // The length of the string, object or array at the cursor, by the kind that is wanted; 21 of any other kind.
-pub fn wanted(doc: &[u8], list: &[u8], at: usize, want: u8) -> Numeral
-    ensures { λ r. ⌜ ReadsNumeral (length (now (doc .entry))) (ask (wantedIn (now (doc .entry)) (now (list .entry)) at want)) r ⌝ }
+pub fn wanted(doc: &[u8], at: usize, want: u8) -> Numeral
+    ensures { λ r. ⌜ ReadsNumeral (length (now (doc .entry))) (ask (wantedIn (now (doc .entry)) at want)) r ⌝ }
 {
-    let e = enter(doc, list, at);
+    let e = enter(doc, at);
     match e {
         Entered::Refused(r) => Numeral::Refused(r),
         Entered::Type(b) => {

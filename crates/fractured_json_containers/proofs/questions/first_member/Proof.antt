@@ -1,21 +1,19 @@
 use Rattle.fractured_json_containers.proofs.QuestionLaws.{first-member-laws}
+use borrow.Author.Needs.{needs}
 use Rattle.fractured_json_containers.proofs.questions.first_member.Statement.{statement}
 use Rattle.fractured_json_containers.proofs.questions.first_member.Tie as tie
 
-wanted-requires : tie.Need-wanted-requires
-wanted-requires c κs = search first-member-laws
+open-question-requires : tie.Need-open-question-requires
+open-question-requires c κs = search needs
 
-enum-known-n : tie.Need-enum-known-n
-enum-known-n c = search first-member-laws
+enum-known-o : tie.Need-enum-known-o
+enum-known-o c = search needs
 
-enum-known-n-2 : tie.Need-enum-known-n-2
-enum-known-n-2 c = search first-member-laws
+enum-told : tie.Need-enum-told
+enum-told c = search needs
 
-find-name-requires : tie.Need-find-name-requires
-find-name-requires c κs = search first-member-laws
-
-find-requires : tie.Need-find-requires
-find-requires c κs = search first-member-laws
+first-here-requires : tie.Need-first-here-requires
+first-here-requires c κs = search first-member-laws
 
 returns : tie.Need-returns
 returns c = search first-member-laws
@@ -26,11 +24,4 @@ returns-2 c = search first-member-laws
 pub first-member-spec : {M : Type 1} → statement M
 first-member-spec =
     tie.close
-    (tie.spec
-    wanted-requires
-    enum-known-n
-    enum-known-n-2
-    find-name-requires
-    find-requires
-    returns
-    returns-2)
+    (tie.spec open-question-requires enum-known-o enum-told first-here-requires returns returns-2)

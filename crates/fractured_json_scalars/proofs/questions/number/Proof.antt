@@ -2,22 +2,18 @@ use Rattle.fractured_json_scalars.proofs.QuestionLaws.{number-laws}
 use borrow.Author.Needs.{needs}
 use Rattle.fractured_json_scalars.proofs.questions.number.Statement.{statement}
 use Rattle.fractured_json_scalars.proofs.questions.number.Tie as tie
-use Rattle.fractured_json_scalars.proofs.questions.number.Reads as reads
-use Rattle.fractured_json_scalars.proofs.questions.number.Lts as lts
-use Rattle.fractured_json_scalars.proofs.enter.enter.Reads as enter-reads
-use Rattle.fractured_json_scalars.proofs.numbers.number_of.Reads as number-of-reads
 
-enter-requires : tie.Need-enter-requires
-enter-requires c κs = search needs
+open-question-requires : tie.Need-open-question-requires
+open-question-requires c κs = search needs
 
-enum-known-e : tie.Need-enum-known-e
-enum-known-e c = search needs
+enum-known-o : tie.Need-enum-known-o
+enum-known-o c = search needs
 
-enum-known-e-2 : tie.Need-enum-known-e-2
-enum-known-e-2 c = search needs
+enum-told : tie.Need-enum-told
+enum-told c = search needs
 
-number-of-requires : tie.Need-number-of-requires
-number-of-requires c κs = search number-laws
+number-here-requires : tie.Need-number-here-requires
+number-here-requires c κs = search needs
 
 returns : tie.Need-returns
 returns c = search number-laws
@@ -28,4 +24,4 @@ returns-2 c = search number-laws
 pub number-spec : {M : Type 1} → statement M
 number-spec =
     tie.close
-    (tie.spec enter-requires enum-known-e enum-known-e-2 number-of-requires returns returns-2)
+    (tie.spec open-question-requires enum-known-o enum-told number-here-requires returns returns-2)
