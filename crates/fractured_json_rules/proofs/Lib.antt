@@ -11,5 +11,6 @@ pub mod Nodes
 pub mod Answers
 pub mod Numbers
 pub mod Questions
+pub mod Opened
 pub mod Demands
 pub mod Examples
