@@ -310,7 +310,7 @@ module _ (doc list : List ℕ) (t : Tree) (m : Means doc list t) (words : List �
       → (p : ℕ) × (v : Tree) × (r ≡ Place.At p) × Leads doc p × StandsFor doc (m .names) (m .keys) p v × ElementIs ts i v
   element-told ts i s h r e =
       let a = Rules.element-answer doc list t m words roomy l ts i s h in
-      (a .place, a .tree, sym (place-is r) ∙ ap placeIs ((rw (ws, cs) at e) ∙ (a .answered)), a .led-to, a .stands, a .is-element)
+      (_, a .tree, sym (place-is r) ∙ ap placeIs ((rw (ws, cs) at e) ∙ (a .answered)), a .led-to, a .stands, a .is-element)
 
   pub element-told-past : (ts : Trees) (i : ℕ) → StandsFor doc (m .names) (m .keys) o (arr ts) → size ts ≤ i → (r : Place) → toldPlace r ≡ ask (elementAt doc list after count o i)
       → r ≡ Place.Refused (refusal 22 o)
@@ -327,8 +327,8 @@ module _ (doc list : List ℕ) (t : Tree) (m : Means doc list t) (words : List �
       × Leads doc p × StandsFor doc (m .names) (m .keys) p v × MemberIs ms j x v
   member-told ms j s h r e =
       let a = Rules.member-answer doc list t m words roomy l ms j s h in (
-        a .key-place,
-        a .value-place,
+        _,
+        _,
         a .key,
         a .tree,
         sym (member-is r) ∙ ap memberIs ((rw (ws, cs) at e) ∙ (a .answered)),
@@ -354,14 +354,14 @@ module _ (doc list : List ℕ) (t : Tree) (m : Means doc list t) (words : List �
         → Leads doc p → StandsFor doc (m .names) (m .keys) p v → r ≡ Found.At p → FirstIs ms x r
     none : Lacks ms x → r ≡ Found.Absent → FirstIs ms x r
 
-  first-by : (ms : Members) (x : List ℕ) (r : Found) (q : Asked Questions.Found) → foundIs q ≡ r → Rules.FirstMemberAnswer doc (m .names) (m .keys) ms x q → FirstIs ms x r
-  first-by ms x r q e (Rules.first j v p is earlier on stands a) = first j v p is earlier on stands (sym e ∙ ap foundIs a)
-  first-by ms x r q e (Rules.none lacks a) = none lacks (sym e ∙ ap foundIs a)
+  first-by : (ms : Members) (x : List ℕ) (p : ℕ → ℕ) (r : Found) (q : Asked Questions.Found) → foundIs q ≡ r → Rules.FirstMemberAnswer doc (m .names) (m .keys) ms x p q → FirstIs ms x r
+  first-by ms x p r q e (Rules.first j v is earlier on stands a) = first j v (p j) is earlier on stands (sym e ∙ ap foundIs a)
+  first-by ms x p r q e (Rules.none lacks a) = none lacks (sym e ∙ ap foundIs a)
 
   pub first-member-told : (ms : Members) (x : List ℕ) → StandsFor doc (m .names) (m .keys) o (obj ms) → (r : Found) → toldFound r ≡ ask (firstMember doc list after count o x) → FirstIs ms x r
   first-member-told ms x s r e =
       let w : toldFound r ≡ ask (firstMember doc list (checked doc list words .words) (checked doc list words .count) o x) = e ∙ rw (ws, cs) in
-      first-by ms x r _ (sym (ap foundIs w) ∙ found-is r) (Rules.first-member-answer doc list t m words roomy l ms x s)
+      first-by ms x _ r _ (sym (ap foundIs w) ∙ found-is r) (Rules.first-member-answer doc list t m words roomy l ms x s)
 
   pub first-member-told-wrong : (u : Tree) (x : List ℕ) → StandsFor doc (m .names) (m .keys) o u → NoObject u → (r : Found) → toldFound r ≡ ask (firstMember doc list after count o x)
       → r ≡ Found.Refused (refusal 21 o)

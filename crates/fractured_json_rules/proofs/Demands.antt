@@ -12,7 +12,7 @@ use Rattle.json.specs.Limits.{deepest, mostKeys}
 use Rattle.json.specs.Reading.{Outcome, halt, done, Reading, Asked, ask, answers, refuses, _>>_}
 use Rattle.json.specs.Tree.{Tree, num, str, arr, obj, Trees, Members, size, sizem, depth, ElementIs, MemberIs, Lacks, NoNumber, NoString, NoArray, NoObject, Subtree}
 use Rattle.json.proofs.Reading.{halt≢done, done-answer, past, step, passed, then, stops, pass, fail, need-yes}
-use Rattle.json.proofs.Tree.{element-at, member-at, member-below, subtree-depth}
+use Rattle.json.proofs.Tree.{element-at, member-at, element-below, member-below, subtree-depth}
 use Rattle.fractured_json_rules.specs.ByteTables.{KeyForm, immediate, backReference, globalIndex, kReserved}
 use Rattle.fractured_json_rules.specs.Meaning.{Names, Lists, noKey, Keys, afterLength, Means}
 use Rattle.fractured_json_rules.specs.Verdict.{Numeral, numeral, keyBy, listedKey, checkKey, document, check, verdict, keysOf}
@@ -30,7 +30,7 @@ use Rattle.fractured_json_rules.proofs.Keys.{first-all, first-trans, fi
 use Rattle.fractured_json_rules.proofs.KeyTable.{passed-room, room-words, stored-length, stored-pair, stored-other}
 use Rattle.fractured_json_rules.proofs.Trees.{length-in, tree-at}
 use Rattle.fractured_json_rules.proofs.Nodes as Nodes
-use Rattle.fractured_json_rules.proofs.Nodes.{element-node, member-node, member-value}
+use Rattle.fractured_json_rules.proofs.Nodes.{element-node, MemberStands, member-value, member-node}
 use Rattle.fractured_json_rules.proofs.Readers.{header-is, byte-step, text-step, key-number-step}
 use Rattle.fractured_json_rules.proofs.Walk.{walks}
 use Rattle.fractured_json_rules.proofs.Answers.{Holds, KeyAnswer, reads-key, walks-value, walks-to-element, walks-to-member, Lookup, hit, miss, finds}
@@ -200,40 +200,38 @@ node-one doc list names listed ks o u v s r =
 -- ---- Every question put to a node that its root leads to, with the key table and count its own check gave, is answered
 -- from that tree.
 
--- the answer r is the place of element i of ts, which the root leads to
-pub record ElementAnswer (doc : List ℕ) (names : Names) (ks : Keys) (ts : Trees) (i : ℕ) (r : Asked ℕ) : Type 0 where
-  pub place : ℕ
+-- the answer r is p, the place of element i of ts, which the root leads to
+pub record ElementAnswer (doc : List ℕ) (names : Names) (ks : Keys) (ts : Trees) (i p : ℕ) (r : Asked ℕ) : Type 0 where
   pub tree : Tree
-  pub answered : r ≡ answers place
-  pub led-to : Leads doc place
-  pub stands : StandsFor doc names ks place tree
+  pub answered : r ≡ answers p
+  pub led-to : Leads doc p
+  pub stands : StandsFor doc names ks p tree
   pub is-element : ElementIs ts i tree
 
--- the answer r is the places of the key byte and the value of member j of ms; asked for at its key byte, the key's text is
+-- the answer r is the places of the key byte, q, and of the value, p, of member j of ms; asked for at its key byte, the key's text is
 -- the member's, and its end is where the value stands
-pub record MemberAnswer (doc list : List ℕ) (names : Names) (ks : Keys) (words : List ℕ) (count : ℕ) (ms : Members) (j : ℕ) (r : Asked MemberAt) : Type 0 where
-  pub key-place : ℕ
-  pub value-place : ℕ
+pub record MemberAnswer (doc list : List ℕ) (names : Names) (ks : Keys) (words : List ℕ) (count : ℕ) (ms : Members) (j q p : ℕ) (r : Asked MemberAt) : Type 0 where
   pub key : List ℕ
   pub tree : Tree
-  pub answered : r ≡ answers (record { key = key-place; value = value-place })
-  pub key-read : KeyAnswer doc list key value-place (ask (keyAt doc list words count key-place))
-  pub led-to : Leads doc value-place
-  pub stands : StandsFor doc names ks value-place tree
+  pub answered : r ≡ answers (record { key = q; value = p })
+  pub key-read : KeyAnswer doc list key p (ask (keyAt doc list words count q))
+  pub led-to : Leads doc p
+  pub stands : StandsFor doc names ks p tree
   pub is-member : MemberIs ms j key tree
 
 -- asked for the second way, it is the key's text itself
 pub key-bytes : (doc list words : List ℕ) (count c : ℕ) (t : List ℕ) (e : ℕ) → KeyAnswer doc list t e (ask (keyAt doc list words count c)) → keyBytes doc list words count c ≡ t
 key-bytes doc list words count c t e k = rw (k .answered) (k .text)
 
--- the answer r is the place of the value of the first member of ms with the key x, or absent where no member has it
-pub data FirstMemberAnswer (doc : List ℕ) (names : Names) (ks : Keys) (ms : Members) (x : List ℕ) (r : Asked Found) : Type 0 where
-  first : (j : ℕ) (v : Tree) (p : ℕ) → MemberIs ms j x v → ((i : ℕ) (w : Tree) → i < j → MemberIs ms i x w → ⊥)
-      → Leads doc p → StandsFor doc names ks p v → r ≡ answers (valueAt p) → FirstMemberAnswer doc names ks ms x r
-  none : Lacks ms x → r ≡ answers absent → FirstMemberAnswer doc names ks ms x r
+-- the answer r is the place of the value of the first member of ms with the key x, or absent where no member has it; the value of
+-- member j stands at `p j`
+pub data FirstMemberAnswer (doc : List ℕ) (names : Names) (ks : Keys) (ms : Members) (x : List ℕ) (p : ℕ → ℕ) (r : Asked Found) : Type 0 where
+  first : (j : ℕ) (v : Tree) → MemberIs ms j x v → ((i : ℕ) (w : Tree) → i < j → MemberIs ms i x w → ⊥)
+      → Leads doc (p j) → StandsFor doc names ks (p j) v → r ≡ answers (valueAt (p j)) → FirstMemberAnswer doc names ks ms x p r
+  none : Lacks ms x → r ≡ answers absent → FirstMemberAnswer doc names ks ms x p r
 
 module _ (doc list : List ℕ) (t : Tree) (m : Means doc list t) {o : ℕ} (l : Leads doc o) where
-  below : (u : Tree) → StandsFor doc (m .names) (m .keys) o u → (3 ≤ o) × Subtree t u
+  pub below : (u : Tree) → StandsFor doc (m .names) (m .keys) o u → (3 ≤ o) × Subtree t u
   below u s =
       let n = Nodes.node doc list t m l in
       (n .after-header, subst (λ (v : Tree). Subtree t v) (node-one doc list (m .names) (m .listed) (m .keys) o (n .tree) u (n .stands) s) (n .below))
@@ -241,6 +239,28 @@ module _ (doc list : List ℕ) (t : Tree) (m : Means doc list t) {o : ℕ} (l : 
   -- every question put there passes the opening
   opens : {A : Type 0} (rest : Reading (Unit {0}) A) → ask (opening doc list o >> rest) ≡ ask rest
   opens rest = then _ _ tt (opening-is doc (m .names) list (m .listed) (m .headed) o (Nodes.node doc list t m l .after-header))
+
+  -- element i stands at its place, and member j: its key byte, and its value after the key
+  pub element-led : (ts : Trees) (i : ℕ) (v : Tree) (s : StandsFor doc (m .names) (m .keys) o (arr ts)) → ElementIs ts i v
+      → Leads doc (elementPlace doc o (s .value .0) i) × StandsFor doc (m .names) (m .keys) (elementPlace doc o (s .value .0) i) v
+  element-led ts i v s is =
+      let (b, sub) = below (arr ts) s in
+      let x = s .value .0 in
+      let form = s .value .1 .form-is in
+      let len : lengthIn doc o x ≡ size ts = length-in doc o x (size ts) (s .value .2) in
+      let h = element-below ts i v is in
+      (element o x i l form (omega arith), element-node doc list t m o ts s x i v b sub form is .1)
+
+  pub member-led : (ms : Members) (j : ℕ) (k : List ℕ) (v : Tree) (s : StandsFor doc (m .names) (m .keys) o (obj ms)) → MemberIs ms j k v
+      → (3 ≤ keyPlace doc o (s .value .0) j) × MemberStands doc (m .names) (m .keys) (keyPlace doc o (s .value .0) j) k v × Leads doc (keyEnd doc (keyPlace doc o (s .value .0) j))
+  member-led ms j k v s is =
+      let (b, sub) = below (obj ms) s in
+      let x = s .value .0 in
+      let form = s .value .1 .form-is in
+      let len : lengthIn doc o x ≡ sizem ms = length-in doc o x (sizem ms) (s .value .2) in
+      let h = member-below ms j k v is in
+      let (on, r) = member-node doc list t m o ms s x j k v b sub form is in
+      (on, r, value o x j l form (omega arith))
 
   pub kind-answer : (u : Tree) → StandsFor doc (m .names) (m .keys) o u → ask (kind doc list o) ≡ answers (kindOf u)
   unfolding kind
@@ -298,26 +318,21 @@ module _ (doc list : List ℕ) (t : Tree) (m : Means doc list t) (words : List �
 
     -- ---- element i
 
-    pub element-answer : (ts : Trees) (i : ℕ) → StandsFor doc (m .names) (m .keys) o (arr ts) → i < size ts
-        → ElementAnswer doc (m .names) (m .keys) ts i (ask (elementAt doc list (checked doc list words .words) (checked doc list words .count) o i))
+    pub element-answer : (ts : Trees) (i : ℕ) (s : StandsFor doc (m .names) (m .keys) o (arr ts)) → i < size ts
+        → ElementAnswer doc (m .names) (m .keys) ts i (elementPlace doc o (s .value .0) i) (ask (elementAt doc list (checked doc list words .words) (checked doc list words .count) o i))
     unfolding elementAt elementHere elementFrom
     element-answer ts i s h =
-        let (b, sub) = below doc list t m l (arr ts) s in
-        let d = subtree-depth t sub in
+        let d = subtree-depth t (below doc list t m l (arr ts) s .1) in
         let n = m .nested in
-        let x = s .value .0 in
-        let form = s .value .1 .form-is in
-        let len : lengthIn doc o x ≡ size ts = length-in doc o x (size ts) (s .value .2) in
         let (v, is) = element-at ts i h in
-        let (on, r) = element-node doc list t m o ts s x i v b sub form is in
+        let (led, stands) = element-led doc list t m l ts i v s is in
         record {
-          place = elementPlace doc o x i;
           tree = v;
           answered =
-              opens doc list t m l _
-              ∙ (then _ _ tt (array-length doc (m .names) o ts _ _ _ (s .value)) ∙ (pass _ _ _ _ tt (lt→ltb _ _ h) ∙ walks-to-element doc list (m .names) (m .listed) (m .keys) _ _ holds ts i _ _ _ _ (s .value .3) (s .first) (omega arith) h));
-          led-to = element o x i l form (omega arith);
-          stands = r;
+              opens doc list t m l _ ∙ (then _ _ tt (array-length doc (m .names) o ts _ _ _ (s .value))
+              ∙ (pass _ _ _ _ tt (lt→ltb _ _ h) ∙ walks-to-element doc list (m .names) (m .listed) (m .keys) _ _ holds ts i _ _ _ _ (s .value .3) (s .first) (omega arith) h));
+          led-to = led;
+          stands = stands;
           is-element = is;
         }
 
@@ -334,28 +349,24 @@ module _ (doc list : List ℕ) (t : Tree) (m : Means doc list t) (words : List �
 
     -- ---- member j
 
-    pub member-answer : (ms : Members) (j : ℕ) → StandsFor doc (m .names) (m .keys) o (obj ms) → j < sizem ms
-        → MemberAnswer doc list (m .names) (m .keys) (checked doc list words .words) (checked doc list words .count) ms j (ask (memberAt doc list (checked doc list words .words) (checked doc list words .count) o j))
+    pub member-answer : (ms : Members) (j : ℕ) (s : StandsFor doc (m .names) (m .keys) o (obj ms)) → j < sizem ms
+        → MemberAnswer doc list (m .names) (m .keys) (checked doc list words .words) (checked doc list words .count) ms j (keyPlace doc o (s .value .0) j) (keyEnd doc (keyPlace doc o (s .value .0) j))
+        (ask (memberAt doc list (checked doc list words .words) (checked doc list words .count) o j))
     unfolding memberAt memberHere memberFrom passKey keyAt
     member-answer ms j s h =
-        let (b, sub) = below doc list t m l (obj ms) s in
-        let d = subtree-depth t sub in
+        let d = subtree-depth t (below doc list t m l (obj ms) s .1) in
         let n = m .nested in
-        let x = s .value .0 in
-        let form = s .value .1 .form-is in
-        let len : lengthIn doc o x ≡ sizem ms = length-in doc o x (sizem ms) (s .value .2) in
+        let q = keyPlace doc o (s .value .0) j in
         let (k, v, is) = member-at ms j h in
-        let (on, r) = member-node doc list t m o ms s x j k v b sub form is in
-        let read = reads-key doc list (m .names) (m .listed) (m .keys) _ _ holds k (keyPlace doc o x j) _ _ _ (r .key-is) (first-trans (grows doc (m .names) v _ _ _ _ (r .value-is)) (r .first)) in
+        let (on, r, led) = member-led doc list t m l ms j k v s is in
+        let read = reads-key doc list (m .names) (m .listed) (m .keys) _ _ holds k q _ _ _ (r .key-is) (first-trans (grows doc (m .names) v _ _ _ _ (r .value-is)) (r .first)) in
         record {
-          key-place = keyPlace doc o x j;
-          value-place = keyEnd doc (keyPlace doc o x j);
           key = k;
           tree = v;
           answered =
               opens doc list t m l _ ∙ (then _ _ tt (object-length doc (m .names) o ms _ _ _ (s .value))
               ∙ (pass _ _ _ _ tt (lt→ltb _ _ h) ∙ (then _ _ tt (walks-to-member doc list (m .names) (m .listed) (m .keys) _ _ holds ms j _ _ _ _ (s .value .3) (s .first) (omega arith) h)
-              ∙ (then _ _ tt (then _ _ tt (read .answered)) ∙ ap (λ p. answers (record { key = keyPlace doc o x j; value = p })) (read .ends)))));
+              ∙ (then _ _ tt (then _ _ tt (read .answered)) ∙ ap (λ p. answers (record { key = q; value = p })) (read .ends)))));
           key-read = record {
             read = read .read;
             answered = then _ _ tt (opening-is doc (m .names) list (m .listed) (m .headed) _ on) ∙ read .answered;
@@ -363,7 +374,7 @@ module _ (doc list : List ℕ) (t : Tree) (m : Means doc list t) (words : List �
             text = read .text;
             ends = read .ends;
           };
-          led-to = value o x j l form (omega arith);
+          led-to = led;
           stands = member-value doc (m .names) r;
           is-member = is;
         }
@@ -381,26 +392,19 @@ module _ (doc list : List ℕ) (t : Tree) (m : Means doc list t) (words : List �
 
     -- ---- the first member by key
 
-    pub first-member-answer : (ms : Members) (x : List ℕ) → StandsFor doc (m .names) (m .keys) o (obj ms)
-        → FirstMemberAnswer doc (m .names) (m .keys) ms x (ask (firstMember doc list (checked doc list words .words) (checked doc list words .count) o x))
+    pub first-member-answer : (ms : Members) (x : List ℕ) (s : StandsFor doc (m .names) (m .keys) o (obj ms))
+        → FirstMemberAnswer doc (m .names) (m .keys) ms x (λ j. keyEnd doc (keyPlace doc o (s .value .0) j)) (ask (firstMember doc list (checked doc list words .words) (checked doc list words .count) o x))
     unfolding firstMember firstHere
     first-member-answer ms x s =
-        let (b, sub) = below doc list t m l (obj ms) s in
-        let d = subtree-depth t sub in
+        let d = subtree-depth t (below doc list t m l (obj ms) s .1) in
         let n = m .nested in
         let begins = opens doc list t m l _ ∙ then _ _ tt (object-length doc (m .names) o ms _ _ _ (s .value)) in
-        led b sub begins (finds doc list (m .names) (m .listed) (m .keys) _ _ holds x ms (afterLength o (s .value .0)) _ _ _ (s .value .3) (s .first) (omega arith))
+        led begins (finds doc list (m .names) (m .listed) (m .keys) _ _ holds x ms (afterLength o (s .value .0)) _ _ _ (s .value .3) (s .first) (omega arith))
       where
-        led : {r q : Asked Found} → 3 ≤ o → Subtree t (obj ms) → r ≡ q
-            → Lookup doc list (m .names) (m .listed) (m .keys) (checked doc list words .words) (checked doc list words .count) holds x ms (afterLength o (s .value .0)) q → FirstMemberAnswer doc (m .names) (m .keys) ms x r
-        led b sub begins (hit j v is earlier e) =
-            let y = s .value .0 in
-            let form = s .value .1 .form-is in
-            let len : lengthIn doc o y ≡ sizem ms = length-in doc o y (sizem ms) (s .value .2) in
-            let h = member-below ms j x v is in
-            let (on, r) = member-node doc list t m o ms s y j x v b sub form is in
-            first j v (keyEnd doc (keyPlace doc o y j)) is earlier (value o y j l form (omega arith)) (member-value doc (m .names) r) (begins ∙ e)
-        led b sub begins (miss lacks e) = none lacks (begins ∙ e)
+        led : {r q : Asked Found} → r ≡ q → Lookup doc list (m .names) (m .listed) (m .keys) (checked doc list words .words) (checked doc list words .count) holds x ms (afterLength o (s .value .0)) q
+            → FirstMemberAnswer doc (m .names) (m .keys) ms x (λ j. keyEnd doc (keyPlace doc o (s .value .0) j)) r
+        led begins (hit j v is earlier e) = let (on, r, to) = member-led doc list t m l ms j x v s is in first j v is earlier to (member-value doc (m .names) r) (begins ∙ e)
+        led begins (miss lacks e) = none lacks (begins ∙ e)
 
     pub first-member-wrong : (u : Tree) (x : List ℕ) → StandsFor doc (m .names) (m .keys) o u → NoObject u
         → ask (firstMember doc list (checked doc list words .words) (checked doc list words .count) o x) ≡ refuses 21 o

@@ -13,4 +13,5 @@ pub mod Numbers
 pub mod Questions
 pub mod Opened
 pub mod Demands
+pub mod Places
 pub mod Examples

@@ -22,23 +22,23 @@ use Rattle.fractured_json_rules.proofs.Trees.{length-in, key-ends, ends
 clash : _≡_ {A = ℕ} 0 1 → ⊥
 clash e = omega arith
 
+-- ---- reading goes forward
+
+pub after-forward : (o : ℕ) (x : Len) → o ≤ afterLength o x
+after-forward o (tiny k) = omega arith
+after-forward o (after w) = omega arith
+
+pub key-number-forward : (doc : List ℕ) (o : ℕ) (x : KeyNumber) (n e : ℕ) → KeyNumberIs doc o x n e → o ≤ e
+key-number-forward doc o (inByte k) n e h = omega arith
+key-number-forward doc o spelled n e (oneByte i b p q) = omega arith
+key-number-forward doc o spelled n e (twoBytes i b0 b1 p q) = omega arith
+key-number-forward doc o spelled n e (threeBytes i b0 b1 b2 p q) = omega arith
+
 module _ (doc : List ℕ) (names : Names) where
-  -- ---- reading goes forward
-
-  after-forward : (o : ℕ) (x : Len) → o ≤ afterLength o x
-  after-forward o (tiny k) = omega arith
-  after-forward o (after w) = omega arith
-
-  key-number-forward : (o : ℕ) (x : KeyNumber) (n e : ℕ) → KeyNumberIs doc o x n e → o ≤ e
-  key-number-forward o (inByte k) n e h = omega arith
-  key-number-forward o spelled n e (oneByte i b p q) = omega arith
-  key-number-forward o spelled n e (twoBytes i b0 b1 p q) = omega arith
-  key-number-forward o spelled n e (threeBytes i b0 b1 b2 p q) = omega arith
-
   key-forward : {t : List ℕ} {o : ℕ} {ks : Keys} {e : ℕ} {kz : Keys} → KeyIs doc names t o ks e kz → o ≤ e
-  key-forward {o = o} (asText x n b s i y f p q) = let r = key-number-forward o x n b i in omega arith
-  key-forward {o = o} {e = e} (asBack x j s i h y q) = key-number-forward o x j e i
-  key-forward {o = o} {e = e} (asGlobal x j s i h y q) = key-number-forward o x j e i
+  key-forward {o = o} (asText x n b s i y f p q) = let r = key-number-forward doc o x n b i in omega arith
+  key-forward {o = o} {e = e} (asBack x j s i h y q) = key-number-forward doc o x j e i
+  key-forward {o = o} {e = e} (asGlobal x j s i h y q) = key-number-forward doc o x j e i
 
   number-forward : {t : Tree} {o e : ℕ} → NumberIs doc t o e → o ≤ e
   number-forward (asTiny b s p q) = omega arith
@@ -137,14 +137,14 @@ module _ (doc : List ℕ) (names : Names) where
   value-form P (arr ts) o ks e kz h n b k s a j = rw (h .1 .form-is) (a ts (h .0) refl)
   value-form P (obj ms) o ks e kz h n b k s a j = rw (h .1 .form-is) (j ms (h .0) refl)
 
-  as-array : (u : Tree) (o : ℕ) (ks : Keys) (e : ℕ) (kz : Keys) (x : Len) → ValueIs doc names u o ks e kz → formOf (getD doc o 0) ≡ fArray x → (ts : Trees) × (u ≡ arr ts)
+  pub as-array : (u : Tree) (o : ℕ) (ks : Keys) (e : ℕ) (kz : Keys) (x : Len) → ValueIs doc names u o ks e kz → formOf (getD doc o 0) ≡ fArray x → (ts : Trees) × (u ≡ arr ts)
   as-array u o ks e kz x h =
       value-form (λ f. f ≡ fArray x → (ts : Trees) × (u ≡ arr ts)) u o ks e kz h
       (λ p q. absurd (clash cc)) (λ b p q. absurd (clash cc))
       (λ s m p. (λ b q. absurd (clash cc), λ g w q. absurd (clash cc), λ f w q. absurd (clash cc)))
       (λ t y p q. absurd (clash cc)) (λ ts y p q. (ts, p)) (λ ms y p q. absurd (clash cc))
 
-  as-object : (u : Tree) (o : ℕ) (ks : Keys) (e : ℕ) (kz : Keys) (x : Len) → ValueIs doc names u o ks e kz → formOf (getD doc o 0) ≡ fObject x → (ms : Members) × (u ≡ obj ms)
+  pub as-object : (u : Tree) (o : ℕ) (ks : Keys) (e : ℕ) (kz : Keys) (x : Len) → ValueIs doc names u o ks e kz → formOf (getD doc o 0) ≡ fObject x → (ms : Members) × (u ≡ obj ms)
   as-object u o ks e kz x h =
       value-form (λ f. f ≡ fObject x → (ms : Members) × (u ≡ obj ms)) u o ks e kz h
       (λ p q. absurd (clash cc)) (λ b p q. absurd (clash cc))
@@ -168,7 +168,7 @@ module _ (doc list : List ℕ) (t : Tree) (m : Means doc list t) where
       let same : h .0 ≡ x = cc (h .1 .form-is, q) in
       let d = subtree-depth t b in
       let n = m .nested in
-      let f = after-forward doc (m .names) o x in
+      let f = after-forward o x in
       let (on, r) = element-stands doc (m .names) (m .keys) deepest ts i (afterLength o x) _ _ _ v (rw same at (h .3)) (s .first) (omega arith) el in
       (omega arith, r)
 
@@ -180,7 +180,7 @@ module _ (doc list : List ℕ) (t : Tree) (m : Means doc list t) where
       let same : h .0 ≡ x = cc (h .1 .form-is, q) in
       let d = subtree-depth t b in
       let n = m .nested in
-      let f = after-forward doc (m .names) o x in
+      let f = after-forward o x in
       let (on, r) = member-stands doc (m .names) (m .keys) deepest ms j (afterLength o x) _ _ _ k v (rw same at (h .3)) (s .first) (omega arith) el in
       (omega arith, r)
 
@@ -207,13 +207,11 @@ module _ (doc list : List ℕ) (t : Tree) (m : Means doc list t) where
       let f = key-forward doc (m .names) (r .key-is) in
       record { tree = v; stands = member-value doc (m .names) r; below = Tree.value ms j k b′ el; after-header = omega arith }
 
+  pub root-stands : StandsFor doc (m .names) (m .keys) 3 t
+  root-stands = record { before = []; past = length doc; met = m .keys; value = m .root; first = first-all (m .keys) }
+
   pub node : {o : ℕ} → Leads doc o → Node o
-  node root = record {
-    tree = t;
-    stands = record { before = []; past = length doc; met = m .keys; value = m .root; first = first-all (m .keys) };
-    below = Tree.whole;
-    after-header = omega arith;
-  }
+  node root = record { tree = t; stands = root-stands; below = Tree.whole; after-header = omega arith }
   node (element o x i l q h) =
       let n = node l in
       let (ts, e) = as-array doc (m .names) (n .tree) o _ _ _ x (n .stands .value) q in

@@ -12,16 +12,13 @@ use Rattle.json.specs.Limits.{deepest}
 use Rattle.json.specs.Reading.{Reading, ask, answers, answer, _>>=_, _>>_}
 use Rattle.json.specs.Texts.{compareTexts, isEqual}
 use Rattle.json.proofs.Reading.{halt≢done, done-answer, step, passed, need-done, need-yes, then}
-use Rattle.fractured_json_rules.specs.ByteTables.{bytes, Len, tiny, after, Form, fNull, fBool, fInt, fFloat, fTiny, fString, fObject, fArray, fReserved, formOf, KeyNumber, inByte, spelled, KeyForm, immediate, backReference, globalIndex, kReserved, keyFormOf}
-use Rattle.fractured_json_rules.specs.Meaning.{afterLength, oneByte, twoBytes, threeBytes, KeyNumberIs}
+use Rattle.fractured_json_rules.specs.ByteTables.{bytes, Len, tiny, after, Form, fNull, fBool, fInt, fFloat, fTiny, fString, fObject, fArray, fReserved, formOf, KeyForm, immediate, backReference, globalIndex, kReserved, keyFormOf}
+use Rattle.fractured_json_rules.specs.Meaning.{afterLength}
 use Rattle.fractured_json_rules.specs.Verdict.{Numeral, numeral, payload, lengthAt, textAt, inTurn, member, valueBy, value, keyBy}
 use Rattle.fractured_json_rules.specs.Questions.{opening, KeyRead, textIn, textKey, backKey, nameKey, readKey, passKey, walk, inner, endOf, kindHere, kind, numberHere, numberAt, Wanted, aString, anObject, anArray, wantedBy, wantedHere, stringHere, stringAt}
 use Rattle.fractured_json_rules.specs.Questions.{elementFrom, elementHere, elementAt, MemberAt, memberFrom, memberHere, memberAt, valueAt, absent, findFrom, findIn, firstHere, firstMember, keyAt}
+use Rattle.fractured_json_rules.proofs.Nodes.{after-forward, key-number-forward}
 use Rattle.fractured_json_rules.proofs.Readers.{byte-step, payload-step, length-step, text-step, key-number-step}
-
-after-forward : (o : ℕ) (x : Len) → o ≤ afterLength o x
-after-forward o (tiny k) = omega arith
-after-forward o (after w) = omega arith
 
 value-answer : {p e : ℕ} → valueAt p ≡ valueAt e → p ≡ e
 value-answer q = cc
@@ -112,12 +109,6 @@ module _ (doc : List ℕ) where
   unfolding wantedHere
   wanted-forward o want n q = wanted-form o (formOf (getD doc o 0)) want n (byte-step doc o o _ tt q .1)
 
-  number-forward : (o : ℕ) (x : KeyNumber) (n e : ℕ) → KeyNumberIs doc o x n e → o ≤ e
-  number-forward o (inByte k) n e h = omega arith
-  number-forward o spelled n e (oneByte i b p q) = omega arith
-  number-forward o spelled n e (twoBytes i b0 b1 p q) = omega arith
-  number-forward o spelled n e (threeBytes i b0 b1 b2 p q) = omega arith
-
   module _ (list words : List ℕ) (count : ℕ) where
     -- ---- a key, and the end
 
@@ -126,15 +117,15 @@ module _ (doc : List ℕ) where
     key-form o (immediate x) k q =
         let (n, b, is, rest) = key-number-step doc o x _ tt q in
         let (fits, r) = text-step doc o (numeral n b) _ tt rest in
-        let f = number-forward o x n b is in
+        let f = key-number-forward doc o x n b is in
         subst (λ (y : KeyRead). o ≤ y .past) (done-answer r) (omega arith)
     key-form o (backReference x) k q =
         let (n, b, is, rest) = key-number-step doc o x _ tt q in
         let r = passed _ _ _ _ tt (passed _ _ _ _ tt (passed _ _ _ _ tt rest .rest) .rest) .rest in
-        subst (λ (y : KeyRead). o ≤ y .past) (done-answer r) (number-forward o x n b is)
+        subst (λ (y : KeyRead). o ≤ y .past) (done-answer r) (key-number-forward doc o x n b is)
     key-form o (globalIndex x) k q =
         let (n, b, is, rest) = key-number-step doc o x _ tt q in
-        subst (λ (y : KeyRead). o ≤ y .past) (done-answer (passed _ _ _ _ tt rest .rest)) (number-forward o x n b is)
+        subst (λ (y : KeyRead). o ≤ y .past) (done-answer (passed _ _ _ _ tt rest .rest)) (key-number-forward doc o x n b is)
     key-form o kReserved k q = absurd (halt≢done q)
 
     pub key-forward : (o : ℕ) (k : KeyRead) → ask (readKey doc list words count o) ≡ answers k → o ≤ k .past

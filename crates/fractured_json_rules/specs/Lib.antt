@@ -5,5 +5,6 @@ pub mod Verdict
 pub mod KeyTable
 pub mod TreeOf
 pub mod Leads
+pub mod Places
 pub mod Questions
 pub mod Answers
