@@ -1,6 +1,8 @@
 -- Small key lists and documents with what the checks and the questions say of them: each number of refusal with its place and the
--- pairs of the keys passed until then, and good answers of each question. 32 is shown for every document that is too long.
-use Prim.Native.Nat.{ℕ, suc, _+_, _-_, _/_, _≤_, _<_}
+-- pairs of the keys passed until then, and good answers of each question; and their trees with places. 32 is shown for every document
+-- that is too long.
+use Prim.Native.Nat.{ℕ, suc, _+_, _-_, _*_, _/_, _^_, _≤_, _<_}
+use mathlib.Core.Bool.{true, false}
 use mathlib.Core.List.{List, [], _∷_, _++_, map, reverse}
 use mathlib.Core.Path.{_≡_, refl, _∙_}
 use native.Mathlib.Omega.{arith}
@@ -9,16 +11,21 @@ use lib.ListN.{length, replicate}
 use Rattle.json.specs.Bytes.{number, hex}
 use Rattle.json.specs.Choose.{choose}
 use Rattle.json.specs.Limits.{leastFractured, longest, deepest}
-use Rattle.json.specs.Number.{finite}
+use Rattle.json.specs.Node as Node
+use Rattle.json.specs.Node.{Scalar, sNull, sBool, sNum, sStr, Node, leaf, dict, nil, cons, last, field}
+use Rattle.json.specs.Number.{scaled, finite, magnitude, floatTree, wholeTree}
 use Rattle.json.specs.Reading.{Reading, halt, done, follow, _>>=_, need, Asked, ask, answers, refuses}
 use Rattle.json.specs.Texts.{byNumbers, compareTexts}
 use Rattle.json.proofs.Reading.{then, stops, pass, fail}
 use Rattle.fractured_json_rules.specs.ByteTables.{formOf, keyFormOf}
-use Rattle.fractured_json_rules.specs.Meaning.{Keys, Names, Lists}
+use Rattle.fractured_json_rules.specs.Meaning.{Keys, Names, Lists, tinyTree}
 use Rattle.fractured_json_rules.specs.KeyList.{met, namesFrom, keyList, noNames, steps, nameOf}
 use Rattle.fractured_json_rules.specs.Verdict.{header, byteAt, payload, lengthAt, textAt, afterSecond, afterFirst, keyNumberAt, inTurn, member, valueBy, value}
 use Rattle.fractured_json_rules.specs.Verdict.{keyBy, newKey, oldKey, listedKey, checkKey, document, check, verdict}
 use Rattle.fractured_json_rules.specs.KeyTable.{roomOf, stored, Checked, checked}
+use Rattle.fractured_json_rules.specs.TreeOf.{spelledIn, keyEnd, endBy, keyTextAt, valueTrees, memberTrees, treeBy, treeAt, treeOf}
+use Rattle.fractured_json_rules.specs.TreeOf as TreeOf
+use Rattle.fractured_json_rules.specs.Places.{contentsBy, valueNode, fracturedNode}
 use Rattle.fractured_json_rules.specs.Questions.{opening, theDocument, theList, KeyRead, textKey, backKey, nameKey, readKey, passKey, inner, endOf, Kind, isNull, isFalse, isTrue, isNumber}
 use Rattle.fractured_json_rules.specs.Questions.{isString, isObject, isArray, kindBy, kindHere, kind, numberBy, numberHere, wantedBy, wantedHere, stringHere, stringBytes}
 use Rattle.fractured_json_rules.specs.Questions.{elementFrom, elementHere, memberFrom, memberHere, Found, valueAt, findFrom, findIn, firstHere, firstMember, keyBytes}
@@ -266,6 +273,10 @@ record Line : Type 0 where
 abbrev lineWith : List ℕ → List ℕ → List ℕ → ℕ → Question → Answer → Line
 lineWith list doc table count question says = record { doc = doc; list = list; table = table; count = count; question = question; says = says }
 
+-- the questions are answered as the lines say
+abbrev Say : List Line → Type 0
+Say ls = map (λ l. put (l .doc) (l .list) (l .table) (l .count) (l .question)) ls ≡ map (λ l. l .says) ls
+
 -- with the list without a name
 abbrev line : List ℕ → List ℕ → ℕ → Question → Answer → Line
 line = lineWith noNames
@@ -277,11 +288,43 @@ inDocument place len past = keyIs (record { lender = theDocument; place = place;
 abbrev inList : ℕ → ℕ → ℕ → Answer
 inList place len past = keyIs (record { lender = theList; place = place; len = len; past = past })
 
+-- ---- before every question: 51 to 54, 31 to 34, 20
+
+-- {"a":[1,"b"]}, with the list without a name and with a bad one: each question is answered; with the bad list it is 51, and at a
+-- cursor under 3 it is 20
+abbrev asked : Question → Answer → Line
+asked = line (hex 10 0x464A016F0461A0DF1762) [] 0
+
+abbrev badList : Question → Answer → Line
+badList = lineWith (hex 3 0x010000) (hex 10 0x464A016F0461A0DF1762) [] 0
+
+abbrev openings : List Line
+openings =
+    asked (endAt 3) (placeIs 10) ∷ badList (endAt 3) (refused 51 0) ∷ asked (endAt 2) (refused 20 2) ∷
+    asked (kindAt 3) (kindIs (isObject 1)) ∷ badList (kindAt 3) (refused 51 0) ∷ asked (kindAt 2) (refused 20 2) ∷
+    asked (numberAt 7) (bitsAre 223 1) ∷ badList (numberAt 7) (refused 51 0) ∷ asked (numberAt 2) (refused 20 2) ∷
+    asked (stringAt 8) (spanIs 9 1) ∷ badList (stringAt 8) (refused 51 0) ∷ asked (stringAt 2) (refused 20 2) ∷
+    asked (stringBytesAt 8) (bytesAre (98 ∷ [])) ∷ badList (stringBytesAt 8) (bytesAre []) ∷
+    asked (elementAt 6 1) (placeIs 8) ∷ badList (elementAt 6 1) (refused 51 0) ∷ asked (elementAt 2 1) (refused 20 2) ∷
+    asked (memberAt 3 0) (placesAre 4 6) ∷ badList (memberAt 3 0) (refused 51 0) ∷ asked (memberAt 2 0) (refused 20 2) ∷
+    asked (firstMemberOf 3 (97 ∷ [])) (placeIs 6) ∷ badList (firstMemberOf 3 (97 ∷ [])) (refused 51 0) ∷ asked (firstMemberOf 2 (97 ∷ [])) (refused 20 2) ∷
+    asked (keyAt 4) (inDocument 5 1 6) ∷ badList (keyAt 4) (refused 51 0) ∷ asked (keyAt 2) (refused 20 2) ∷
+    asked (keyBytesAt 4) (bytesAre (97 ∷ [])) ∷ badList (keyBytesAt 4) (bytesAre []) ∷
+    -- the key list before the header, and the header before the cursor
+    lineWith [] [] [] 0 (endAt 0) (refused 52 0) ∷
+    line (hex 3 0x464A01) [] 0 (kindAt 2) (refused 31 3) ∷
+    []
+
+pub openings-say : Say openings
+unfolding follow _>>=_ need choose number byNumbers compareTexts formOf keyFormOf header byteAt lengthAt textAt keyNumberAt inTurn member valueBy value keyBy namesFrom keyList
+    opening textKey readKey passKey endOf kindBy kindHere kind numberBy numberHere Questions.numberAt wantedBy wantedHere stringHere Questions.stringAt elementFrom elementHere Questions.elementAt
+    memberFrom memberHere Questions.memberAt findFrom findIn firstHere firstMember Questions.keyAt
+openings-say = refl
+
+-- ---- what each asks after that
+
 abbrev lines : List Line
 lines =
-    -- 20: a cursor under 3; the header before it
-    line (hex 3 0x464A01) [] 0 (kindAt 3) (refused 31 3) ∷
-    line (hex 4 0x464A0100) [] 0 (kindAt 2) (refused 20 2) ∷
     -- 35: a cursor past the end, to every question
     line (hex 4 0x464A0100) [] 0 (endAt 4) (refused 35 4) ∷
     line (hex 4 0x464A0100) [] 0 (kindAt 4) (refused 35 4) ∷
@@ -379,16 +422,6 @@ lines =
     line (hex 4 0x464A016E) [] 0 (firstMemberOf 3 []) absent ∷
     line (hex 9 0x464A01700461005701) (0 ∷ 2 ∷ []) 1 (firstMemberOf 3 (70 ∷ 74 ∷ [])) (placeIs 8) ∷
     line (hex 6 0x464A016F5700) (6 ∷ 0 ∷ []) 1 (firstMemberOf 3 []) (placeIs 5) ∷
-    -- with a key list: a bad one before 31, to every question
-    lineWith [] [] [] 0 (endAt 0) (refused 52 0) ∷
-    lineWith (hex 3 0x010000) (hex 4 0x464A0100) [] 0 (kindAt 3) (refused 51 0) ∷
-    lineWith (hex 4 0x00000000) [] [] 0 (numberAt 3) (refused 53 3) ∷
-    lineWith (hex 2 0x0000) [] [] 0 (stringAt 3) (refused 52 1) ∷
-    lineWith (hex 2 0x0000) (hex 5 0x464A011761) [] 0 (stringBytesAt 3) (bytesAre []) ∷
-    lineWith (hex 7 0x00020000000000) [] [] 0 (elementAt 3 0) (refused 54 5) ∷
-    lineWith (hex 2 0x0000) [] [] 0 (memberAt 3 0) (refused 52 1) ∷
-    lineWith (hex 2 0x0000) [] [] 0 (firstMemberOf 3 []) (refused 52 1) ∷
-    lineWith (hex 2 0x0000) [] [] 0 (keyAt 3) (refused 52 1) ∷
     -- a global key's text is the name
     lineWith twoNames (hex 9 0x464A0170AB00046101) [] 0 (endAt 3) (placeIs 9) ∷
     lineWith twoNames (hex 9 0x464A0170AB00AC0100) [] 0 (memberAt 3 1) (placesAre 6 7) ∷
@@ -397,8 +430,6 @@ lines =
     lineWith twoNames (hex 8 0x464A0170AB00AC01) [] 0 (firstMemberOf 3 (99 ∷ [])) absent ∷
     lineWith twoNames (hex 8 0x464A0170AB00AD01) [] 0 (firstMemberOf 3 (99 ∷ [])) (refused 38 6) ∷
     -- a key at its key byte
-    line (hex 3 0x464A01) [] 0 (keyAt 2) (refused 31 3) ∷
-    line (hex 7 0x464A016F046100) [] 0 (keyAt 2) (refused 20 2) ∷
     line (hex 7 0x464A016F046100) [] 0 (keyAt 7) (refused 35 7) ∷
     line (hex 7 0x464A016FFF6100) [] 0 (keyAt 4) (refused 36 4) ∷
     line (hex 8 0x464A016F00FFFF04) [] 0 (keyAt 4) (refused 37 7) ∷
@@ -418,8 +449,54 @@ lines =
     lineWith twoNames (hex 6 0x464A016FAD00) [] 0 (keyBytesAt 4) (bytesAre []) ∷
     []
 
-pub questions-say : map (λ l. put (l .doc) (l .list) (l .table) (l .count) (l .question)) lines ≡ map (λ l. l .says) lines
+pub questions-say : Say lines
 unfolding follow _>>=_ need choose number finite byNumbers compareTexts formOf keyFormOf header byteAt payload lengthAt textAt afterSecond afterFirst keyNumberAt
     inTurn member valueBy value keyBy met namesFrom keyList steps nameOf roomOf opening textKey backKey nameKey readKey passKey endOf kindBy kindHere kind numberBy numberHere
     Questions.numberAt wantedBy wantedHere stringHere Questions.stringAt elementFrom elementHere Questions.elementAt memberFrom memberHere Questions.memberAt findFrom findIn firstHere firstMember Questions.keyAt
 questions-say = refl
+
+-- ---- the tree with places
+
+record Placed : Type 0 where
+  doc : List ℕ
+  list : List ℕ
+  says : Node
+
+abbrev placed : List ℕ → Node → Placed
+placed doc says = record { doc = doc; list = noNames; says = says }
+
+abbrev whole : ℕ → Scalar
+whole n = sNum false (scaled n)
+
+abbrev trees : List Placed
+trees =
+    -- a scalar root: null, false, -32, 1.5, "a"
+    placed (hex 4 0x464A0100) (leaf 3 sNull) ∷
+    placed (hex 4 0x464A0101) (leaf 3 (sBool false)) ∷
+    placed (hex 4 0x464A01BE) (leaf 3 (sNum true (scaled 32))) ∷
+    placed (hex 8 0x464A010B0000C03F) (leaf 3 (sNum false (3 * 2 ^ 1073))) ∷
+    placed (hex 5 0x464A011761) (leaf 3 (sStr (97 ∷ []))) ∷
+    -- [], {}, [-32,31], {"a":true}
+    placed (hex 4 0x464A019E) (Node.list 3 nil) ∷
+    placed (hex 4 0x464A016E) (dict 3 last) ∷
+    placed (hex 6 0x464A01A0BEFD) (Node.list 3 (cons (leaf 4 (sNum true (scaled 32))) (cons (leaf 5 (whole 31)) nil))) ∷
+    placed (hex 7 0x464A016F046102) (dict 3 (field 4 (97 ∷ []) (leaf 6 (sBool true)) last)) ∷
+    -- [{"a":null},{"a":1}]: the second key is a back reference
+    placed (hex 11 0x464A01A06F0461006F57DF)
+    (Node.list 3 (cons (dict 4 (field 5 (97 ∷ []) (leaf 7 sNull) last)) (cons (dict 8 (field 9 (97 ∷ []) (leaf 10 (whole 1)) last)) nil))) ∷
+    -- {"a":1,"b":{"c":null},"d":2}
+    placed (hex 16 0x464A01710461DF04626F0463000464E0)
+    (dict 3 (field 4 (97 ∷ []) (leaf 6 (whole 1)) (field 7 (98 ∷ []) (dict 9 (field 10 (99 ∷ []) (leaf 12 sNull) last)) (field 13 (100 ∷ []) (leaf 15 (whole 2)) last)))) ∷
+    -- ["ab",{"a":true}], with each length in 8 bits
+    placed (hex 14 0x464A0113020D0261621001046102)
+    (Node.list 3 (cons (leaf 5 (sStr (97 ∷ 98 ∷ []))) (cons (dict 9 (field 11 (97 ∷ []) (leaf 13 (sBool true)) last)) nil))) ∷
+    -- [{"":1},2], with lengths in 16 and 32 bits and the key's length in three bytes
+    placed (hex 17 0x464A01140200120100000000808000DFE0) (Node.list 3 (cons (dict 6 (field 11 [] (leaf 15 (whole 1)) last)) (cons (leaf 16 (whole 2)) nil))) ∷
+    -- {"b":true}, whose key is a name
+    record { doc = hex 6 0x464A016FAC02; list = twoNames; says = dict 3 (field 4 (98 ∷ []) (leaf 5 (sBool true)) last) } ∷
+    []
+
+pub places-say : map (λ p. fracturedNode 4 (p .doc) (p .list)) trees ≡ map (λ p. p .says) trees
+unfolding follow _>>=_ need choose number magnitude floatTree wholeTree tinyTree formOf keyFormOf header byteAt lengthAt textAt keyNumberAt inTurn member valueBy value keyBy met namesFrom keyList
+    newKey oldKey checkKey document check steps nameOf spelledIn keyEnd endBy TreeOf.endAt keyTextAt valueTrees memberTrees treeBy treeAt treeOf contentsBy valueNode fracturedNode
+places-say = refl
