@@ -399,6 +399,7 @@ lines =
     line (hex 14 0x464A01A00C000000000000F07F00) [] 0 (elementAt 3 0) (placeIs 4) ∷
     line (hex 14 0x464A01A00C000000000000F07F00) [] 0 (elementAt 3 1) (refused 43 4) ∷
     line (hex 8 0x464A01A06F570001) (5 ∷ 99 ∷ []) 1 (elementAt 3 1) (refused 38 5) ∷
+    line (hex 8 0x464A01A06F570001) (5 ∷ 1 ∷ []) 1 (elementAt 3 1) (placeIs 7) ∷
     line (hex 4 0x464A01A0 ++ replicate inner 0x9F ++ hex 2 0x9E00) [] 0 (elementAt 3 1) (refused 41 (4 + inner)) ∷
     line (hex 4 0x464A01A0 ++ replicate (inner - 1) 0x9F ++ hex 2 0x9E00) [] 0 (elementAt 3 1) (placeIs (4 + inner)) ∷
     -- member j: its own key is read
@@ -484,9 +485,9 @@ trees =
     -- [{"a":null},{"a":1}]: the second key is a back reference
     placed (hex 11 0x464A01A06F0461006F57DF)
     (Node.list 3 (cons (dict 4 (field 5 (97 ∷ []) (leaf 7 sNull) last)) (cons (dict 8 (field 9 (97 ∷ []) (leaf 10 (whole 1)) last)) nil))) ∷
-    -- {"a":1,"b":{"c":null},"d":2}
-    placed (hex 16 0x464A01710461DF04626F0463000464E0)
-    (dict 3 (field 4 (97 ∷ []) (leaf 6 (whole 1)) (field 7 (98 ∷ []) (dict 9 (field 10 (99 ∷ []) (leaf 12 sNull) last)) (field 13 (100 ∷ []) (leaf 15 (whole 2)) last)))) ∷
+    -- {"ab":1,"c":{"d":null},"e":2}
+    placed (hex 17 0x464A0171056162DF04636F0464000465E0)
+    (dict 3 (field 4 (97 ∷ 98 ∷ []) (leaf 7 (whole 1)) (field 8 (99 ∷ []) (dict 10 (field 11 (100 ∷ []) (leaf 13 sNull) last)) (field 14 (101 ∷ []) (leaf 16 (whole 2)) last)))) ∷
     -- ["ab",{"a":true}], with each length in 8 bits
     placed (hex 14 0x464A0113020D0261621001046102)
     (Node.list 3 (cons (leaf 5 (sStr (97 ∷ 98 ∷ []))) (cons (dict 9 (field 11 (97 ∷ []) (leaf 13 (sBool true)) last)) nil))) ∷
