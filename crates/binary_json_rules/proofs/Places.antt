@@ -1,10 +1,12 @@
 -- The tree with places: without them it is the tree, of any bytes. Of a good document, each node is one that the root leads to, and
--- stands there for its own subtree; and each container that the root leads to, and each Entry of one, is in it.
+-- stands there for its own subtree; each container that the root leads to, and each Entry of one, is in it; and its places are those
+-- that the questions answer.
 use mathlib.Core.Path.{_≡_, refl, sym, ap, subst}
 use mathlib.Core.Bool.{true, false}
 use mathlib.Core.List.{List}
 use Prim.Native.Nat.{ℕ, zero, suc, _+_, _*_, _<_}
 use native.Mathlib.Omega.{arith}
+use Rattle.json.specs.Reading.{ask, answers}
 use Rattle.json.specs.Tree.{Tree, null, bool, num, str, arr, obj, Trees, none, more, Members, end, member, size, sizem, ElementIs, MemberIs}
 use Rattle.json.specs.Node.{Node, leaf, list, dict, Nodes, Fields, bare, bares, barem, NodeIs, FieldIs, Within, itself, element, value}
 use Rattle.json.proofs.Tree.{element-at, element-below, member-at, member-below}
@@ -12,12 +14,13 @@ use Rattle.binary_json_rules.specs.Areas.{word, low, high, content, kSca
 use Rattle.binary_json_rules.specs.Meaning.{SlotIs, EntryIs, ContainerIs, Means}
 use Rattle.binary_json_rules.specs.TreeOf.{treeOf}
 use Rattle.binary_json_rules.specs.Leads.{EntryOf, ofArray, ofScalar, ofObject, Leads, root, named}
-use Rattle.binary_json_rules.specs.Questions.{keyEntryOf}
-use Rattle.binary_json_rules.specs.Places.{entryNode, entryNodes, fieldNodes, containerNode, binaryNode, Stands}
+use Rattle.binary_json_rules.specs.Questions as Questions
+use Rattle.binary_json_rules.specs.Questions.{keyEntryOf, memberAt}
+use Rattle.binary_json_rules.specs.Places.{entryNode, entryNodes, fieldNodes, containerNode, binaryNode, Stands, PlacedBy}
 use Rattle.binary_json_rules.proofs.Trees.{means-tree}
 use Rattle.binary_json_rules.proofs.Nodes.{element-is, member-is, container-one, entry-one}
 use Rattle.binary_json_rules.proofs.Answers.{key-slot}
-use Rattle.binary_json_rules.proofs.Demands.{container-stands, entry-stands}
+use Rattle.binary_json_rules.proofs.Demands.{container-stands, entry-stands, element-of-array, member-of-object, container-of-entry}
 
 clash : _≡_ {A = ℕ} 0 1 → ⊥
 clash e = omega arith
@@ -256,3 +259,29 @@ module _ (doc : List ℕ) (t : Tree) (m : Means doc t) where
   entries-within c a v l o is =
       let (u, h, s) = container-stands doc t m c l in
       entry-in-it c a u v h (containers-within l u h) o is
+
+  -- ---- its places are those that the questions answer
+
+  placed-by : (c a : ℕ) (v : Tree) → Leads doc c → EntryOf doc c a → EntryIs doc v a → PlacedBy doc a (entryNode doc v a)
+  unfolding entryNode
+  placed-by c a null l o h = refl
+  placed-by c a (bool b) l o h = refl
+  placed-by c a (num s n) l o h = refl
+  placed-by c a (str x) l o h = refl
+  placed-by c a (arr ts) l o h = container-of-entry doc t m c l a o (arr ts) tt h .0
+  placed-by c a (obj ms) l o h = container-of-entry doc t m c l a o (obj ms) tt h .0
+
+  pub element-placed : (p : ℕ) (ns : Nodes) (i : ℕ) (n : Node) → Within (binaryNode doc) (list p ns) → NodeIs ns i n
+      → (a : ℕ) × (ask (Questions.element doc p i) ≡ answers a) × PlacedBy doc a n
+  element-placed p ns i n w e =
+      let g = within-laid doc (binaryNode doc) root-laid w in
+      let (v, x, q, o, is) = laid-element doc p ns i n g e in
+      (p + 4 + 4 * i, element-of-array doc t m p (g .1) (g .0) i v (g .2) x .0, rw q (placed-by p (p + 4 + 4 * i) v (g .1) o is))
+
+  pub member-placed : (p : ℕ) (fs : Fields) (j at : ℕ) (k : List ℕ) (n : Node) → Within (binaryNode doc) (dict p fs) → FieldIs fs j at k n
+      → (a : ℕ) × (ask (memberAt doc p j) ≡ answers (record { slot = word doc at; entry = a })) × PlacedBy doc a n
+  member-placed p fs j at k n w f =
+      let g = within-laid doc (binaryNode doc) root-laid w in
+      let (v, x, q, o, is) = laid-field doc p fs j at k n g f in
+      let r = keys-stand w j at k n f .0 in
+      (p + 4 + 4 * sizem (g .0) + 4 * j, rw r (member-of-object doc t m p (g .1) (g .0) j k v (g .2) x .0), rw q (placed-by p _ v (g .1) o is))

@@ -3,8 +3,8 @@ pub mod Meaning
 pub mod Verdict
 pub mod TreeOf
 pub mod Leads
-pub mod Places
 pub mod Questions
+pub mod Places
 pub mod Halving
 pub mod Lookup
 pub mod Answers

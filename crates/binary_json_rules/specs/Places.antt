@@ -2,12 +2,15 @@
 -- member's key at its KeyEntry. The tree is the one of TreeOf.antt; the places are offsets that the document itself names.
 use Prim.Native.Nat.{ℕ, _+_, _*_}
 use mathlib.Core.List.{List}
+use mathlib.Core.Path.{_≡_}
+use Rattle.json.specs.Reading.{ask, answers}
 use Rattle.json.specs.Tree.{Tree, null, bool, num, str, arr, obj, Trees, none, more, Members, end, member, sizem}
 use Rattle.json.specs.Node.{sNull, sBool, sNum, sStr, Node, leaf, list, dict, Nodes, nil, cons, Fields, last, field, scalarTree, bare}
 use Rattle.binary_json_rules.specs.Areas.{high}
 use Rattle.binary_json_rules.specs.Meaning.{EntryIs, ContainerIs}
 use Rattle.binary_json_rules.specs.TreeOf.{treeOf}
 use Rattle.binary_json_rules.specs.Leads.{EntryOf, Leads}
+use Rattle.binary_json_rules.specs.Questions.{containerAt}
 
 unfoldable mutual
   -- the tree that the Entry at a stands for
@@ -47,3 +50,9 @@ abbrev pub Stands : List ℕ → Node → Type 0
 Stands doc (leaf p s) = (c : ℕ) × Leads doc c × EntryOf doc c p × EntryIs doc (scalarTree s) p
 Stands doc (list p ns) = Leads doc p × ContainerIs doc (bare (list p ns)) p
 Stands doc (dict p fs) = Leads doc p × ContainerIs doc (bare (dict p fs)) p
+
+-- where the value of the Entry at a stands: a container where the container question says, any other value at a itself
+abbrev pub PlacedBy : List ℕ → ℕ → Node → Type 0
+PlacedBy doc a (leaf p s) = p ≡ a
+PlacedBy doc a (list p ns) = ask (containerAt doc a) ≡ answers p
+PlacedBy doc a (dict p fs) = ask (containerAt doc a) ≡ answers p
