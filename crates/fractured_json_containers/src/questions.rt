@@ -1,6 +1,6 @@
 // The questions that go by the key table: where a value ends, an element, a member, the first member by its key, and a key. Each is
-// right for all bytes, key lists, cursors, key tables and counts, and reads only what it needs, in the order of the rules. What it asks
-// after the opening is a function of its own (`.._here`; the end's is `skip`), for walks that open once.
+// right for all bytes, key lists, cursors, key tables and counts, and reads only what it needs, in the order of the rules. What it
+// asks after the opening is a function of its own (`.._here`; the end's is `skip`), for walks that open once.
 use crate::lookup::find;
 use crate::skip::INNER;
 use crate::skip::KeyText;

@@ -231,7 +231,7 @@ pub data FirstMemberAnswer (doc : List ℕ) (names : Names) (ks : Keys) (ms : Me
   none : Lacks ms x → r ≡ answers absent → FirstMemberAnswer doc names ks ms x p r
 
 module _ (doc list : List ℕ) (t : Tree) (m : Means doc list t) {o : ℕ} (l : Leads doc o) where
-  pub below : (u : Tree) → StandsFor doc (m .names) (m .keys) o u → (3 ≤ o) × Subtree t u
+  below : (u : Tree) → StandsFor doc (m .names) (m .keys) o u → (3 ≤ o) × Subtree t u
   below u s =
       let n = Nodes.node doc list t m l in
       (n .after-header, subst (λ (v : Tree). Subtree t v) (node-one doc list (m .names) (m .listed) (m .keys) o (n .tree) u (n .stands) s) (n .below))

@@ -3,11 +3,11 @@
 -- the questions answer.
 use Prim.Native.Nat.{ℕ, zero, suc, _≤_, _<_}
 use mathlib.Core.List.{List}
-use mathlib.Core.Path.{_≡_, refl, ap, _∙_}
+use mathlib.Core.Path.{_≡_, refl, sym, ap, _∙_}
 use native.Mathlib.Omega.{arith}
 use lib.ListN.{length, getD}
 use Rattle.json.specs.Limits.{deepest}
-use Rattle.json.specs.Reading.{ask, answers}
+use Rattle.json.specs.Reading.{Asked, ask, answers}
 use Rattle.json.specs.Tree.{Tree, null, bool, num, str, arr, obj, Trees, none, more, Members, end, member, size, sizem, ElementIs, MemberIs}
 use Rattle.json.specs.Node as Node
 use Rattle.json.specs.Node.{Node, leaf, dict, Nodes, Fields, scalarTree, place, bare, bares, barem, NodeIs, FieldIs, Within, itself, element, value}
@@ -20,11 +20,12 @@ use Rattle.fractured_json_rules.specs.TreeOf.{lengthIn, keyEnd, endAt, t
 use Rattle.fractured_json_rules.specs.Leads as Leads
 use Rattle.fractured_json_rules.specs.Leads.{elementPlace, keyPlace, Leads, root, StandsFor}
 use Rattle.fractured_json_rules.specs.Places.{contentsBy, contents, valueNode, valueNodes, fieldNodes, fracturedNode, Stands}
-use Rattle.fractured_json_rules.specs.Questions.{elementAt, memberAt}
+use Rattle.fractured_json_rules.specs.Questions.{elementAt, memberAt, Found, valueAt, absent, firstMember}
 use Rattle.fractured_json_rules.proofs.Trees.{length-in}
 use Rattle.fractured_json_rules.proofs.Nodes as Nodes
 use Rattle.fractured_json_rules.proofs.Nodes.{member-value, root-stands}
-use Rattle.fractured_json_rules.proofs.Demands.{tree-of, node-one, element-led, member-led, element-answer, member-answer}
+use Rattle.fractured_json_rules.proofs.Demands as Demands
+use Rattle.fractured_json_rules.proofs.Demands.{tree-of, node-one, FirstMemberAnswer, element-led, member-led, element-answer, member-answer, first-member-answer}
 
 module _ (doc : List ℕ) where
   -- ---- without the places, for all bytes
@@ -98,6 +99,11 @@ module _ (doc : List ℕ) where
   contents-object o x e = rw e
 
 -- ---- in a good document
+
+-- the answer r is the place of the value of the first member with the key x, or absent where no member has it
+pub data FirstPlaced (fs : Fields) (x : List ℕ) (r : Asked Found) : Type 0 where
+  hit : (j at : ℕ) (n : Node) → FieldIs fs j at x n → ((i a : ℕ) (w : Node) → i < j → FieldIs fs i a x w → ⊥) → r ≡ answers (valueAt (place n)) → FirstPlaced fs x r
+  miss : ((j at : ℕ) (n : Node) → FieldIs fs j at x n → ⊥) → r ≡ answers absent → FirstPlaced fs x r
 
 module _ (doc list : List ℕ) (t : Tree) (m : Means doc list t) where
   abbrev For : ℕ → Tree → Type 0
@@ -204,6 +210,17 @@ module _ (doc list : List ℕ) (t : Tree) (m : Means doc list t) where
 
   -- ---- its places are those that the questions answer, with the key table and count that the check gave
 
+  field-laid : (p : ℕ) (fs : Fields) (j : ℕ) (k : List ℕ) (v : Tree) (h : Laid (dict p fs)) → MemberIs (h .0) j k v
+      → FieldIs fs j (keyPlace doc p (h .2 .value .0) j) k (valueNode doc v (keyEnd doc (keyPlace doc p (h .2 .value .0) j)))
+  field-laid p fs j k v h x = rw (h .3, contents-object doc p (h .2 .value .0) (h .2 .value .1 .form-is)) (field-there doc (h .0) j (afterLength p (h .2 .value .0)) k v x)
+
+  first-by : (p : ℕ) (fs : Fields) (x : List ℕ) (h : Laid (dict p fs)) {r : Asked Found}
+      → FirstMemberAnswer doc (m .names) (m .keys) (h .0) x (λ j. keyEnd doc (keyPlace doc p (h .2 .value .0) j)) r → FirstPlaced fs x r
+  first-by p fs x h (Demands.first j v is earlier l s e) =
+      hit j _ _ (field-laid p fs j x v h is) (λ i a w b f. let (u, y, _, _) = laid-field p fs i a x w h f in earlier i u b y)
+      (e ∙ ap (λ o. answers (valueAt o)) (sym (place-value doc v _)))
+  first-by p fs x h (Demands.none lacks e) = miss (λ j a w f. let (u, y, _, _) = laid-field p fs j a x w h f in lacks j u y) e
+
   module _ (words : List ℕ) (roomy : length (m .keys) ≤ roomOf words) where
     pub element-placed : (p : ℕ) (ns : Nodes) (i : ℕ) (n : Node) → Within (fracturedNode (roomOf words) doc list) (Node.list p ns) → NodeIs ns i n
         → ask (elementAt doc list (checked doc list words .words) (checked doc list words .count) p i) ≡ answers (place n)
@@ -218,3 +235,9 @@ module _ (doc list : List ℕ) (t : Tree) (m : Means doc list t) where
         let h = within-laid (fracturedNode (roomOf words) doc list) (root-laid (roomOf words) roomy) w in
         let (v, x, a, q) = laid-field p fs j at k n h f in
         rw (a, q, place-value doc v (keyEnd doc (keyPlace doc p (h .2 .value .0) j))) (member-answer doc list t m words roomy (h .1) (h .0) j (h .2) (member-below (h .0) j k v x) .answered)
+
+    pub first-placed : (p : ℕ) (fs : Fields) (x : List ℕ) → Within (fracturedNode (roomOf words) doc list) (dict p fs)
+        → FirstPlaced fs x (ask (firstMember doc list (checked doc list words .words) (checked doc list words .count) p x))
+    first-placed p fs x w =
+        let h = within-laid (fracturedNode (roomOf words) doc list) (root-laid (roomOf words) roomy) w in
+        first-by p fs x h (first-member-answer doc list t m words roomy (h .1) (h .0) x (h .2))

@@ -1,6 +1,6 @@
 // The questions that need no key table: a value's kind, a number, a string and its text. Each is right for all bytes, key lists and
-// cursors, and reads only what it needs, in the order of the rules. What it asks after the opening is a function of its own (`.._here`),
-// for walks that open once.
+// cursors, and reads only what it needs, in the order of the rules. What it asks after the opening is a function of its own
+// (`.._here`), for walks that open once.
 use crate::enter::Entered;
 use crate::enter::enter;
 use crate::enter::open_question;
@@ -16,7 +16,7 @@ use json::Refusal;
 use json::Verdict;
 ghost use mathlib.Core.Path.{_≡_};
 ghost use Rattle.json.specs.Reading.{ask};
-ghost use Rattle.fractured_json_rules.specs.Questions.{kind as kindAt, kindHere, numberAt, numberHere, stringAt, stringHere, stringBytes};
+ghost use Rattle.fractured_json_rules.specs.Questions.{kindHere, kind as kindAt, numberHere, numberAt, stringHere, stringAt, stringBytes};
 ghost use Rattle.fractured_json_answers.specs.Told.{toldKind, toldNumber, toldText};
 
 // The kind that a length is asked of.
