@@ -16,12 +16,11 @@ use Rattle.json.specs.declared.Refusal.{Refusal}
 use Rattle.json.specs.declared.Verdict.{Verdict}
 use Rattle.json.proofs.Bytes.{number-small}
 use Rattle.json.proofs.Reading.{step, then, stops, pass, fail}
-use Rattle.fractured_json_rules.specs.KeyList.{countIn, keyList, nameOf}
+use Rattle.fractured_json_rules.specs.KeyList.{keyList, nameOf}
 use Rattle.fractured_json_rules.specs.Verdict.{inTurn, value}
 use Rattle.fractured_json_rules.specs.Questions.{opening, theDocument, theList, KeyRead, readKey, passKey, inner, endOf, anObject, anArray, elementFrom, elementHere, elementAt, MemberAt, memberFrom, memberHere, memberAt, Found, findIn, firstHere, firstMember, keyAt, keyBytes}
 use Rattle.fractured_json_values.specs.Opened.{entry, ReadsNumeral}
 use Rattle.fractured_json_scalars.specs.Asked.{wantedIn}
-use Rattle.fractured_json_list.specs.Finding.{namedFrom, Named}
 use Rattle.fractured_json_containers.specs.Asked.{ReadsKey}
 use Rattle.fractured_json_answers.specs.Told.{toldPlace, toldKey}
 use Rattle.fractured_json_answers.specs.declared.Key.{Key}
@@ -101,10 +100,7 @@ module _ (doc list words : List ℕ) (count at : ℕ) (x : List ℕ) (c : Numera
   unfolding firstHere
   find-read n p r q e = e ∙ sym (length-read doc at anObject _ c cs n p q)
 
-pub name-found : (list x : List ℕ) (r : ℕ) → ask (keyList list) ≡ answers tt → r ≡ namedFrom list x (countIn list) 3 0 → Named list x r
-name-found list x r good e = answer-names list x r good e
-
-pub ruleset first-here-laws = (find-refused, name-found, find-read, needs)
+pub ruleset first-here-laws = (find-refused, answer-names, find-read, needs)
 
 -- ---- a key
 
