@@ -9,7 +9,7 @@ use lib.Dec.{le→leb}
 use lib.ListN.{length}
 use mir.Syntax.{w64}
 use mir.Val.{Fits}
-use Rattle.json.specs.Reading.{Reading, ask, refuses, _>>_}
+use Rattle.json.specs.Reading.{Reading, Asked, ask, refuses, _>>_}
 use Rattle.json.specs.declared.Refusal.{Refusal}
 use Rattle.json.proofs.Reading.{eq→eqb, over, unlike, then, stops, pass, fail, need-yes, need-no}
 use Rattle.binary_json_rules.specs.Areas.{low, high, index, count, slot, text, numbers}
@@ -133,7 +133,8 @@ module _ (doc : List ℕ) (a : Areas) (x : Laid doc a) (c : ℕ) (g : Bool) (w :
 
 pub ruleset word-here-laws = (no-word, word-inside, word-at, needs)
 
--- what is read at the word of the tree at the cursor, of k and v, fits
+-- a word of the tree stands at the cursor, with the fields k and v: where a body of v entries or members ends can be
+-- counted
 module _ (doc : List ℕ) (a : Areas) (x : Laid doc a) (c : ℕ) (w : WordHere) (h : WordRead doc a c w) (k v : ℕ) (e : w ≡ WordHere.Of k v) where
   pub word-is : WordAt doc a c k v
   word-is = rw e at h
@@ -165,5 +166,5 @@ module _ {A : Type 0} (doc : List ℕ) (c : ℕ) (rest : Reading (Unit {0}) A) (
   pub opening-refused : (r : Refusal) → o ≡ Asking.Refused r → refuses (r .number) (r .place) ≡ ask (opening doc c >> rest)
   opening-refused r e = sym (stops _ _ tt (rw e at x))
 
-  pub opening-passed : (a : Areas) → o ≡ Asking.Of a → ask rest ≡ ask (opening doc c >> rest)
-  opening-passed a e = let y : Open doc a c = rw e at x in sym (then _ _ tt (y .opens))
+  pub opening-passed : (a : Areas) (s : Asked A) → o ≡ Asking.Of a → s ≡ ask rest → s ≡ ask (opening doc c >> rest)
+  opening-passed a s e h = let y : Open doc a c = rw e at x in h ∙ sym (then _ _ tt (y .opens))

@@ -76,7 +76,7 @@ pub fn tree_word(doc: &[u8], a: Areas, at: usize) -> bool
     true
 }
 
-// The two fields of a word of the tree, or why the question is refused.
+// The two fields of a word of the tree, the lower one first, or why the question is refused.
 pub enum WordHere {
     Of(usize, usize),
     Refused(Refusal),

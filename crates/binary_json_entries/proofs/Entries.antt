@@ -15,7 +15,7 @@ use Rattle.json.specs.Span.{spanned}
 use Rattle.json.specs.Span as Text
 use Rattle.json.specs.declared.Refusal.{Refusal}
 use Rattle.json.proofs.Reading.{eq→eqb, past, unlike, then, stops, pass, fail, step, passed, need-done, done-answer}
-use Rattle.binary_json_rules.specs.Areas.{low, high, text, numbers}
+use Rattle.binary_json_rules.specs.Areas.{high, text, numbers}
 use Rattle.binary_json_rules.specs.Questions.{opening, treeWord, slotRead, textNamed, slotText, typeHere, entryType, containerHere, containerAt, stringHere, stringAt, numberHere, numberAt}
 use Rattle.binary_json_rules.specs.Verdict.{numberNamed}
 use Rattle.binary_json_rules.specs.TreeOf.{slotAt}
@@ -168,23 +168,23 @@ module _ (doc : List ℕ) (c : ℕ) (o : Asking) (x : Opens doc c o) where
   module _ (a : Areas) (e : o ≡ Asking.Of a) where
     pub type-opened : (s : Asked ℕ) → s ≡ ask (typeHere doc c) → s ≡ ask (entryType doc c)
     unfolding entryType
-    type-opened s h = h ∙ opening-passed doc c _ o x a e
+    type-opened s h = opening-passed doc c _ o x a s e h
 
     pub container-opened : (s : Asked ℕ) → s ≡ ask (containerHere doc c) → s ≡ ask (containerAt doc c)
     unfolding containerAt
-    container-opened s h = h ∙ opening-passed doc c _ o x a e
+    container-opened s h = opening-passed doc c _ o x a s e h
 
     pub number-opened : (s : Asked ℕ) → s ≡ ask (numberHere doc c) → s ≡ ask (numberAt doc c)
     unfolding numberAt
-    number-opened s h = h ∙ opening-passed doc c _ o x a e
+    number-opened s h = opening-passed doc c _ o x a s e h
 
     pub string-opened : (s : Asked Text.Span) → s ≡ ask (stringHere doc c) → s ≡ ask (stringAt doc c)
     unfolding stringAt
-    string-opened s h = h ∙ opening-passed doc c _ o x a e
+    string-opened s h = opening-passed doc c _ o x a s e h
 
     pub slot-opened : (s : Asked Text.Span) → s ≡ ask (textNamed doc c c) → s ≡ ask (slotText doc c)
     unfolding slotText
-    slot-opened s h = h ∙ opening-passed doc c _ o x a e
+    slot-opened s h = opening-passed doc c _ o x a s e h
 
 pub ruleset type-laws = (open-laid, type-closed, type-opened, needs)
 

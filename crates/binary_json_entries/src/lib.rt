@@ -1,5 +1,6 @@
-// The questions at an Entry and at a slot, each on lent bytes and a cursor, right even where nobody checked. What a question asks
-// after its opening is a function of its own (`.._here`), lent the areas that the opening found, for walks that open once.
+// The questions at an Entry and at a slot, each on lent bytes and a cursor, right even where nobody checked. What a
+// question asks after its opening is a function of its own (`.._here`), given the areas that the opening found, for
+// walks that open once.
 use binary_json_answers::Bits;
 use binary_json_answers::Span;
 use binary_json_answers::TreeAt;

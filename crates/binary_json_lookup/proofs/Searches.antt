@@ -325,10 +325,10 @@ module _ (doc : List ℕ) (c : ℕ) (key : List ℕ) (o : Asking) (x : Opens doc
   module _ (a : Areas) (e : o ≡ Asking.Of a) where
     pub lookup-opened : (s : Lookup) → s ≡ lookupOf (ask (quickHere doc c key)) → s ≡ lookupOf (ask (quickLookup doc c key))
     unfolding quickLookup
-    lookup-opened s h = h ∙ ap lookupOf (opening-passed doc c _ o x a e)
+    lookup-opened s h = h ∙ ap lookupOf (opening-passed doc c _ o x a _ e refl)
 
     pub scan-opened : (s : Asked Found) → s ≡ ask (scanHere doc c key) → s ≡ ask (plainScan doc c key)
     unfolding plainScan
-    scan-opened s h = h ∙ opening-passed doc c _ o x a e
+    scan-opened s h = opening-passed doc c _ o x a s e h
 
 pub ruleset lookup-laws = (open-laid, lookup-closed, scan-closed, lookup-opened, scan-opened, needs)

@@ -1,5 +1,5 @@
-// Looking a key up in an object: by halving, with both counts, and by a plain scan. What each does after its opening is a function of
-// its own (`.._here`), lent the areas that the opening found, for walks that open once.
+// Looking a key up in an object: by halving, with both counts, and by a plain scan. What each does after its opening is
+// a function of its own (`.._here`), given the areas that the opening found, for walks that open once.
 use binary_json_answers::Looked;
 use binary_json_answers::Scanned;
 use binary_json_areas::areas::Areas;

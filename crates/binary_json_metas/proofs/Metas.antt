@@ -192,15 +192,15 @@ module _ (doc : List ℕ) (c : ℕ) (o : Asking) (x : Opens doc c o) where
   module _ (a : Areas) (e : o ≡ Asking.Of a) where
     pub kind-opened : (s : Asked Sized) → s ≡ ask (kindHere doc c) → s ≡ ask (kindAndSize doc c)
     unfolding kindAndSize
-    kind-opened s h = h ∙ opening-passed doc c _ o x a e
+    kind-opened s h = opening-passed doc c _ o x a s e h
 
     pub element-opened : (i : ℕ) (s : Asked ℕ) → s ≡ ask (elementHere doc c i) → s ≡ ask (element doc c i)
     unfolding element
-    element-opened i s h = h ∙ opening-passed doc c _ o x a e
+    element-opened i s h = opening-passed doc c _ o x a s e h
 
     pub member-opened : (j : ℕ) (s : Asked MemberAt) → s ≡ ask (memberHere doc c j) → s ≡ ask (memberAt doc c j)
     unfolding memberAt
-    member-opened j s h = h ∙ opening-passed doc c _ o x a e
+    member-opened j s h = opening-passed doc c _ o x a s e h
 
 pub ruleset kind-laws = (open-laid, kind-closed, kind-opened, needs)
 

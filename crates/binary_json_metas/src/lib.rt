@@ -1,5 +1,5 @@
-// The questions at a Meta, each on lent bytes and a cursor, right even where nobody checked. What a question asks after its opening
-// is a function of its own (`.._here`), lent the areas that the opening found, for walks that open once.
+// The questions at a Meta, each on lent bytes and a cursor, right even where nobody checked. What a question asks after
+// its opening is a function of its own (`.._here`), given the areas that the opening found, for walks that open once.
 use binary_json_answers::MemberAt;
 use binary_json_answers::Sized;
 use binary_json_answers::TreeAt;

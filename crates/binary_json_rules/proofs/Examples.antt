@@ -125,14 +125,21 @@ too-long doc h =
 
 -- ---- the questions
 
--- a question that opens the document at its cursor: 11 bytes are 1 at 11, and texts that end before the slots do are 20 at the cursor
-abbrev Opens : {A : Type 0} → (List ℕ → ℕ → Reading (Unit {0}) A) → Type 0
-Opens question = (ask (question (hex 11 0x0101000000000000000000) 4) ≡ refuses 1 11) × (ask (question (hex 16 0x01010000000000000100000080000000) 7) ≡ refuses 20 7)
+-- a question that opens the document at its cursor: 11 bytes are 1 at 11, and areas that are not in order 20 at the
+-- cursor
+abbrev Opens : {A : Type 0} → (List ℕ → ℕ → Reading (Unit {0}) A) → List ℕ → ℕ → Type 0
+Opens question doc c = (ask (question (hex 11 0x0101000000000000000000) 4) ≡ refuses 1 11) × (ask (question doc c) ≡ refuses 20 c)
 
--- each of them does
+-- [null], whose texts end before its slots do: a word of the tree stands at 8, which each question but a slot's would
+-- read
+abbrev early : List ℕ
+early = hex 20 0x8101000020000000020000000100000080000000
+
+-- each of them does; the slot at 12 would be read but for its text, which ends past the document
 pub openings-say :
-    Opens kindAndSize × Opens (λ doc c. element doc c 0) × Opens (λ doc c. memberAt doc c 0) × Opens slotText × Opens entryType × Opens containerAt × Opens stringAt × Opens numberAt
-    × Opens (λ doc c. quickLookup doc c []) × Opens (λ doc c. plainScan doc c [])
+    Opens kindAndSize early 8 × Opens (λ doc c. element doc c 0) early 8 × Opens (λ doc c. memberAt doc c 0) early 8 × Opens slotText (hex 16 0x01010000000000000100000020020000) 12
+    × Opens entryType early 8 × Opens containerAt early 8 × Opens stringAt early 8 × Opens numberAt early 8 × Opens (λ doc c. quickLookup doc c []) early 8
+    × Opens (λ doc c. plainScan doc c []) early 8
 unfolding need _>>=_ follow number index count slot text numbers header opening kindAndSize element memberAt slotText entryType containerAt stringAt numberAt quickLookup plainScan
 openings-say = ((refl, refl), (refl, refl), (refl, refl), (refl, refl), (refl, refl), (refl, refl), (refl, refl), (refl, refl), (refl, refl), (refl, refl))
 

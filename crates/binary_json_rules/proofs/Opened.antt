@@ -1,5 +1,5 @@
--- A document that opens at one cursor opens at every cursor, whatever its bytes; and then each question is what it asks after its
--- opening. So a walk of many questions has to open the document once.
+-- A document that opens at one cursor opens at every cursor, whatever its bytes; and then each question is what it asks
+-- after its opening. So a walk of many questions has to open the document once.
 use mathlib.Core.Path.{_≡_, _∙_}
 use mathlib.Core.List.{List}
 use Prim.Native.Nat.{ℕ}

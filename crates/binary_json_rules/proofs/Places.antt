@@ -1,6 +1,6 @@
--- The tree with places: without them it is the tree, of any bytes. Of a good document, each node is one that the root leads to, and
--- stands there for its own subtree; each container that the root leads to, and each Entry of one, is in it; and its places are those
--- that the questions answer.
+-- The tree with places: without them it is the tree, of any bytes. Of a good document, each node is one that the root
+-- leads to, and stands there for its own subtree; each container that the root leads to, and each Entry of one, is in
+-- it; and its places are those that the questions answer.
 use mathlib.Core.Path.{_≡_, refl, sym, ap, subst}
 use mathlib.Core.Bool.{true, false}
 use mathlib.Core.List.{List}
@@ -31,7 +31,7 @@ module _ (doc : List ℕ) where
   mutual
     unfolding entryNode entryNodes fieldNodes
 
-    pub bare-entry : (t : Tree) (a : ℕ) → bare (entryNode doc t a) ≡ t
+    bare-entry : (t : Tree) (a : ℕ) → bare (entryNode doc t a) ≡ t
     bare-entry null a = refl
     bare-entry (bool b) a = refl
     bare-entry (num s m) a = refl
@@ -39,15 +39,15 @@ module _ (doc : List ℕ) where
     bare-entry (arr ts) a = ap arr (bare-entries ts _)
     bare-entry (obj ms) a = ap obj (bare-fields ms _ _)
 
-    pub bare-entries : (ts : Trees) (a : ℕ) → bares (entryNodes doc ts a) ≡ ts
+    bare-entries : (ts : Trees) (a : ℕ) → bares (entryNodes doc ts a) ≡ ts
     bare-entries none a = refl
     bare-entries (more t ts) a = rw (bare-entry t a, bare-entries ts (a + 4))
 
-    pub bare-fields : (ms : Members) (q a : ℕ) → barem (fieldNodes doc ms q a) ≡ ms
+    bare-fields : (ms : Members) (q a : ℕ) → barem (fieldNodes doc ms q a) ≡ ms
     bare-fields end q a = refl
     bare-fields (member k t ms) q a = rw (bare-entry t a, bare-fields ms (q + 4) (a + 4))
 
-  pub bare-container : (t : Tree) (c : ℕ) → bare (containerNode doc t c) ≡ t
+  bare-container : (t : Tree) (c : ℕ) → bare (containerNode doc t c) ≡ t
   unfolding containerNode
   bare-container null c = refl
   bare-container (bool b) c = refl
@@ -102,17 +102,18 @@ module _ (doc : List ℕ) where
 
   -- ---- how a node is laid out
 
-  abbrev pub Laid : Node → Type 0
+  -- the root leads to the node, which stands for a tree and has that tree's places
+  abbrev Laid : Node → Type 0
   Laid (leaf p s) = Stands doc (leaf p s)
   Laid (list p ns) = (ts : Trees) × Leads doc p × ContainerIs doc (arr ts) p × (ns ≡ entryNodes doc ts (p + 4))
   Laid (dict p fs) = (ms : Members) × Leads doc p × ContainerIs doc (obj ms) p × (fs ≡ fieldNodes doc ms (p + 4) (p + 4 + 4 * sizem ms))
 
-  pub laid-stands : (n : Node) → Laid n → Stands doc n
+  laid-stands : (n : Node) → Laid n → Stands doc n
   laid-stands (leaf p s) h = h
   laid-stands (list p ns) h = (h .1, rw (h .3, bare-entries (h .0) (p + 4)) (h .2))
   laid-stands (dict p fs) h = (h .1, rw (h .3, bare-fields (h .0) (p + 4) (p + 4 + 4 * sizem (h .0))) (h .2))
 
-  pub laid-entry : (c a : ℕ) (v : Tree) → Leads doc c → EntryOf doc c a → EntryIs doc v a → Laid (entryNode doc v a)
+  laid-entry : (c a : ℕ) (v : Tree) → Leads doc c → EntryOf doc c a → EntryIs doc v a → Laid (entryNode doc v a)
   unfolding entryNode
   laid-entry c a null l o h = (c, l, o, h)
   laid-entry c a (bool b) l o h = (c, l, o, h)
@@ -124,7 +125,7 @@ module _ (doc : List ℕ) where
   scalar-entry : (c : ℕ) → kindOf (low doc c) ≡ kScalar → high doc c ≡ 1 → EntryOf doc c (c + 4)
   scalar-entry c k n = ofScalar 0 k (omega arith) (omega arith)
 
-  pub laid-container : (c : ℕ) (u : Tree) → Leads doc c → ContainerIs doc u c → Laid (containerNode doc u c)
+  laid-container : (c : ℕ) (u : Tree) → Leads doc c → ContainerIs doc u c → Laid (containerNode doc u c)
   unfolding containerNode
   laid-container c null l h = (c, l, scalar-entry c (h .0 .kind-is) (h .0 .size-is), h .1)
   laid-container c (bool b) l h = (c, l, scalar-entry c (h .0 .kind-is) (h .0 .size-is), h .1)
@@ -136,27 +137,27 @@ module _ (doc : List ℕ) where
   element-entry : (p : ℕ) (ts : Trees) (i : ℕ) (v : Tree) → ContainerIs doc (arr ts) p → ElementIs ts i v → EntryOf doc p (p + 4 + 4 * i)
   element-entry p ts i v h x = let n = h .0 .size-is in let b = element-below ts i v x in ofArray i (h .0 .kind-is) (omega arith) refl
 
-  pub member-entry : (p : ℕ) (ms : Members) (j : ℕ) (k : List ℕ) (v : Tree) → ContainerIs doc (obj ms) p → MemberIs ms j k v → EntryOf doc p (p + 4 + 4 * sizem ms + 4 * j)
+  member-entry : (p : ℕ) (ms : Members) (j : ℕ) (k : List ℕ) (v : Tree) → ContainerIs doc (obj ms) p → MemberIs ms j k v → EntryOf doc p (p + 4 + 4 * sizem ms + 4 * j)
   member-entry p ms j k v h x =
       let n = h .0 .size-is in
       let b = member-below ms j k v x in
       ofObject j (h .0 .kind-is) (omega arith) (rw n)
 
   -- the Entry of an element and of a member, and what stands there
-  pub laid-element : (p : ℕ) (ns : Nodes) (i : ℕ) (m : Node) (h : Laid (list p ns)) → NodeIs ns i m
+  laid-element : (p : ℕ) (ns : Nodes) (i : ℕ) (m : Node) (h : Laid (list p ns)) → NodeIs ns i m
       → (v : Tree) × ElementIs (h .0) i v × (m ≡ entryNode doc v (p + 4 + 4 * i)) × EntryOf doc p (p + 4 + 4 * i) × EntryIs doc v (p + 4 + 4 * i)
   laid-element p ns i m h e =
       let (v, x, q) = element-of (h .0) i (p + 4) m (rw (h .3) at e) in
       (v, x, q, element-entry p (h .0) i v (h .2) x, element-is doc (h .0) i (p + 4) v (h .2 .1) x)
 
-  pub laid-field : (p : ℕ) (fs : Fields) (j at : ℕ) (k : List ℕ) (m : Node) (h : Laid (dict p fs)) → FieldIs fs j at k m
+  laid-field : (p : ℕ) (fs : Fields) (j at : ℕ) (k : List ℕ) (m : Node) (h : Laid (dict p fs)) → FieldIs fs j at k m
       → (v : Tree) × MemberIs (h .0) j k v × (m ≡ entryNode doc v (p + 4 + 4 * sizem (h .0) + 4 * j)) × EntryOf doc p (p + 4 + 4 * sizem (h .0) + 4 * j)
       × EntryIs doc v (p + 4 + 4 * sizem (h .0) + 4 * j)
   laid-field p fs j at k m h f =
       let (v, x, q, r) = field-of (h .0) j (p + 4) (p + 4 + 4 * sizem (h .0)) at k m (rw (h .3) at f) in
       (v, x, q, member-entry p (h .0) j k v (h .2) x, member-is doc (h .0) j 0 (p + 4) _ k v (h .2 .1) x)
 
-  pub within-laid : (t : Node) {m : Node} → Laid t → Within t m → Laid m
+  within-laid : (t : Node) {m : Node} → Laid t → Within t m → Laid m
   within-laid t h itself = h
   within-laid t h (element p ns i {m} w e) =
       let g = within-laid t h w in
@@ -170,11 +171,11 @@ module _ (doc : List ℕ) where
 -- ---- in a good document
 
 module _ (doc : List ℕ) (t : Tree) (m : Means doc t) where
-  pub binary-is : binaryNode doc ≡ containerNode doc t 4
+  binary-is : binaryNode doc ≡ containerNode doc t 4
   unfolding binaryNode
   binary-is = ap (λ u. containerNode doc u 4) (means-tree doc t m)
 
-  pub root-laid : Laid doc (binaryNode doc)
+  root-laid : Laid doc (binaryNode doc)
   root-laid = rw binary-is (laid-container doc 4 t root (m .root))
 
   -- each node of it is one that the root leads to, and stands there for its tree

@@ -16,8 +16,8 @@ use Rattle.binary_json_rules.specs.TreeOf.{slotAt}
 
 -- ---- before every question, asked at the cursor c
 
--- What a question asks after its opening has a name of its own (`..Here`; a slot's is textNamed), so that a walk of many questions
--- opens the document once.
+-- What a question asks after its opening has a name of its own (`..Here`; a slot's is textNamed), so that a walk of
+-- many questions opens the document once.
 unfoldable pub opening : {S : Type 0} → List ℕ → ℕ → Reading S (Unit {0})
 opening doc c = do
   header doc

@@ -1,6 +1,7 @@
-// The questions that go by the key table: where a value ends, an element, a member, the first member by its key, and a key. Each is
-// right for all bytes, key lists, cursors, key tables and counts, and reads only what it needs, in the order of the rules. What it
-// asks after the opening is a function of its own (`.._here`; the end's is `skip`), for walks that open once.
+// The questions that go by the key table: where a value ends, an element, a member, the first member by its key, and a
+// key. Each is right for all bytes, key lists, cursors, key tables and counts, and reads only what it needs, in the
+// order of the rules. What it asks after the opening is a function of its own (`.._here`; the end's is `skip`), for
+// walks that open once.
 use crate::lookup::find;
 use crate::skip::INNER;
 use crate::skip::KeyText;
@@ -158,7 +159,8 @@ pub fn member(doc: &[u8], list: &[u8], keys: &[u32], count: usize, at: usize, j:
     }
 }
 
-// The first member with the key `x` of the object at the cursor, after the opening, which says that the key list is good.
+// The first member with the key `x` of the object at the cursor, after the opening, which says that the key list is
+// good.
 pub fn first_here(doc: &[u8], list: &[u8], keys: &[u32], count: usize, at: usize, x: &[u8]) -> Found
     requires { ⌜ ask (keyList (now list)) ≡ answers tt ⌝ }
     ensures { λ r. ⌜ toldFound r ≡ ask (firstHere (now (doc .entry)) (now (list .entry)) (now (keys .entry)) count at (now (x .entry))) ⌝ }

@@ -208,8 +208,8 @@ pub record ElementAnswer (doc : List ℕ) (names : Names) (ks : Keys) (ts : Tree
   pub stands : StandsFor doc names ks p tree
   pub is-element : ElementIs ts i tree
 
--- the answer r is the places of the key byte, q, and of the value, p, of member j of ms; asked for at its key byte, the key's text is
--- the member's, and its end is where the value stands
+-- the answer r is the places of the key byte, q, and of the value, p, of member j of ms; asked for at its key byte, the
+-- key's text is the member's, and its end is where the value stands
 pub record MemberAnswer (doc list : List ℕ) (names : Names) (ks : Keys) (words : List ℕ) (count : ℕ) (ms : Members) (j q p : ℕ) (r : Asked MemberAt) : Type 0 where
   pub key : List ℕ
   pub tree : Tree
@@ -223,8 +223,8 @@ pub record MemberAnswer (doc list : List ℕ) (names : Names) (ks : Keys) (words
 pub key-bytes : (doc list words : List ℕ) (count c : ℕ) (t : List ℕ) (e : ℕ) → KeyAnswer doc list t e (ask (keyAt doc list words count c)) → keyBytes doc list words count c ≡ t
 key-bytes doc list words count c t e k = rw (k .answered) (k .text)
 
--- the answer r is the place of the value of the first member of ms with the key x, or absent where no member has it; the value of
--- member j stands at `p j`
+-- the answer r is the place of the value of the first member of ms with the key x, or absent where no member has it;
+-- the value of member j stands at `p j`
 pub data FirstMemberAnswer (doc : List ℕ) (names : Names) (ks : Keys) (ms : Members) (x : List ℕ) (p : ℕ → ℕ) (r : Asked Found) : Type 0 where
   first : (j : ℕ) (v : Tree) → MemberIs ms j x v → ((i : ℕ) (w : Tree) → i < j → MemberIs ms i x w → ⊥)
       → Leads doc (p j) → StandsFor doc names ks (p j) v → r ≡ answers (valueAt (p j)) → FirstMemberAnswer doc names ks ms x p r

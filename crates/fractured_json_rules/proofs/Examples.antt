@@ -1,6 +1,6 @@
--- Small key lists and documents with what the checks and the questions say of them: each number of refusal with its place and the
--- pairs of the keys passed until then, and good answers of each question; and their trees with places. 32 is shown for every document
--- that is too long.
+-- Small key lists and documents with what the checks and the questions say of them: each number of refusal with its
+-- place and the pairs of the keys passed until then, and good answers of each question; and their trees with places. 32
+-- is shown for every document that is too long.
 use Prim.Native.Nat.{ℕ, suc, _+_, _-_, _*_, _/_, _^_, _≤_, _<_}
 use mathlib.Core.Bool.{true, false}
 use mathlib.Core.List.{List, [], _∷_, _++_, map, reverse}
@@ -290,13 +290,16 @@ inList place len past = keyIs (record { lender = theList; place = place; len = l
 
 -- ---- before every question: 51 to 54, 31 to 34, 20
 
--- {"a":[1,"b"]}, with the list without a name and with a bad one: each question is answered; with the bad list it is 51, and at a
--- cursor under 3 it is 20
+-- {"a":[1,"b"]}, with a list without a name: each question is answered, and at a cursor under 3 it is 20; with a bad
+-- list it is 51; and a document that is too short is 31, whatever the cursor
 abbrev asked : Question → Answer → Line
 asked = line (hex 10 0x464A016F0461A0DF1762) [] 0
 
 abbrev badList : Question → Answer → Line
 badList = lineWith (hex 3 0x010000) (hex 10 0x464A016F0461A0DF1762) [] 0
+
+abbrev tooShort : Question → Line
+tooShort q = line (hex 3 0x464A01) [] 0 q (refused 31 3)
 
 abbrev openings : List Line
 openings =
@@ -312,7 +315,8 @@ openings =
     asked (keyBytesAt 4) (bytesAre (97 ∷ [])) ∷ badList (keyBytesAt 4) (bytesAre []) ∷
     -- the key list before the header, and the header before the cursor
     lineWith [] [] [] 0 (endAt 0) (refused 52 0) ∷
-    line (hex 3 0x464A01) [] 0 (kindAt 2) (refused 31 3) ∷
+    tooShort (endAt 2) ∷ tooShort (kindAt 2) ∷ tooShort (numberAt 2) ∷ tooShort (stringAt 2) ∷ tooShort (elementAt 2 0) ∷ tooShort (memberAt 2 0) ∷ tooShort (firstMemberOf 2 []) ∷
+    tooShort (keyAt 2) ∷
     []
 
 pub openings-say : Say openings

@@ -1,5 +1,6 @@
--- A walk by questions that starts with an opening and goes on at answers needs no other opening: one that passed passes at every
--- later cursor, and no answer lies before its cursor, in any bytes. So from then on each question is what it asks after the opening.
+-- A walk by questions that starts with an opening and goes on at answers needs no other opening: one that passed passes
+-- at every later cursor, and no value, key or end that is answered lies before its cursor, in any bytes. So from then
+-- on each question is what it asks after the opening.
 use Prim.Native.Nat.{ℕ, zero, suc, _+_, _≤_}
 use mathlib.Core.Bool.{Bool, true, false}
 use mathlib.Core.List.{List}
@@ -195,19 +196,21 @@ module _ (doc : List ℕ) where
         go zero p f r = absurd (absent≢value (done-answer r))
         go (suc n) p f r = let g = find-forward x n p e r in omega arith
 
--- ---- after an opening at c, at a later cursor d
+-- ---- after an opening at c, which is after the header, at any cursor d after the header
 
-module _ (doc list : List ℕ) (c d : ℕ) (h : c ≤ d) (o : ask (opening doc list c) ≡ answers tt) where
-  pub opens-later : ask (opening doc list d) ≡ answers tt
+after-header : (doc list : List ℕ) (c : ℕ) → ask (opening doc list c) ≡ answers tt → 3 ≤ c
+unfolding opening
+after-header doc list c o = leb→le 3 c (need-done _ _ _ tt (step _ _ tt (step _ _ tt o .rest) .rest))
+
+module _ (doc list : List ℕ) (c d : ℕ) (h : 3 ≤ d) (o : ask (opening doc list c) ≡ answers tt) where
+  pub opens-again : ask (opening doc list d) ≡ answers tt
   unfolding opening
-  opens-later =
+  opens-again =
       let s = step _ _ tt o in
-      let t = step _ _ tt (s .rest) in
-      let b = leb→le 3 c (need-done _ _ _ tt (t .rest)) in
-      then _ _ tt (s .first) ∙ (then _ _ tt (t .first) ∙ need-yes _ _ _ tt (le→leb 3 d (omega arith)))
+      then _ _ tt (s .first) ∙ (then _ _ tt (step _ _ tt (s .rest) .first) ∙ need-yes _ _ _ tt (le→leb 3 d h))
 
   once : {A : Type 0} (rest : Reading (Unit {0}) A) → ask (opening doc list d >> rest) ≡ ask rest
-  once rest = then _ _ tt opens-later
+  once rest = then _ _ tt opens-again
 
   pub kind-once : ask (kind doc list d) ≡ ask (kindHere doc d)
   unfolding kind
@@ -241,3 +244,7 @@ module _ (doc list : List ℕ) (c d : ℕ) (h : c ≤ d) (o : ask (opening doc l
     pub key-once : ask (keyAt doc list words count d) ≡ ask (readKey doc list words count d)
     unfolding keyAt
     key-once = once _
+
+-- and so at every later cursor
+pub opens-later : (doc list : List ℕ) (c d : ℕ) → c ≤ d → ask (opening doc list c) ≡ answers tt → ask (opening doc list d) ≡ answers tt
+opens-later doc list c d h o = let b = after-header doc list c o in opens-again doc list c d (omega arith) o

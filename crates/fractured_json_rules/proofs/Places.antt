@@ -1,9 +1,9 @@
--- The tree with places of a good document: without its places it is the tree that the document means; each of its nodes is one that
--- the root leads to, and stands there for its own subtree; each value that the root leads to is in it; and its places are those that
--- the questions answer.
+-- The tree with places of a good document: without its places it is the tree that the document means; each of its nodes
+-- is one that the root leads to, and stands there for its own subtree; each value that the root leads to is in it; and
+-- its places are those that the questions answer.
 use Prim.Native.Nat.{ℕ, zero, suc, _≤_, _<_}
 use mathlib.Core.List.{List}
-use mathlib.Core.Path.{_≡_, refl, sym, ap, _∙_}
+use mathlib.Core.Path.{_≡_, refl, sym, ap, _∙_, subst}
 use native.Mathlib.Omega.{arith}
 use lib.ListN.{length, getD}
 use Rattle.json.specs.Limits.{deepest}
@@ -13,7 +13,7 @@ use Rattle.json.specs.Node as Node
 use Rattle.json.specs.Node.{Node, leaf, dict, Nodes, Fields, scalarTree, place, bare, bares, barem, NodeIs, FieldIs, Within, itself, element, value}
 use Rattle.json.proofs.Tree.{element-at, element-below, member-at, member-below}
 use Rattle.fractured_json_rules.specs.ByteTables.{Len, fObject, fArray, formOf}
-use Rattle.fractured_json_rules.specs.Meaning.{afterLength, Means}
+use Rattle.fractured_json_rules.specs.Meaning.{afterLength, Keys, KeyIs, Means}
 use Rattle.fractured_json_rules.specs.KeyList.{steps}
 use Rattle.fractured_json_rules.specs.KeyTable.{roomOf, checked}
 use Rattle.fractured_json_rules.specs.TreeOf.{lengthIn, keyEnd, endAt, treeOf}
@@ -167,6 +167,17 @@ module _ (doc list : List ℕ) (t : Tree) (m : Means doc list t) where
     -- each node of it is one that the root leads to, and stands there for its tree
     pub nodes-stand : {n : Node} → Within (fracturedNode room doc list) n → Stands doc (m .names) (m .keys) n
     nodes-stand {n} w = laid-stands n (within-laid (fracturedNode room doc list) root-laid w)
+
+    -- and each key stands at its key byte and ends where its value stands
+    pub keys-stand : (p : ℕ) (fs : Fields) (j at : ℕ) (k : List ℕ) (n : Node) → Within (fracturedNode room doc list) (dict p fs) → FieldIs fs j at k n
+        → (before : Keys) × (met : Keys) × KeyIs doc (m .names) k at before (place n) met
+    keys-stand p fs j at k n w f =
+        let h = within-laid (fracturedNode room doc list) root-laid w in
+        let (v, x, a, q) = laid-field p fs j at k n h f in
+        let (on, r, l) = member-led doc list t m (h .1) (h .0) j k v (h .2) x in
+        let past : place n ≡ keyEnd doc (keyPlace doc p (h .2 .value .0) j) = ap place q ∙ place-value doc v _ in
+        let there = subst (λ (e : ℕ). KeyIs doc (m .names) k (keyPlace doc p (h .2 .value .0) j) (r .before) e (r .between)) (sym past) (r .key-is) in
+        (r .before, r .between, subst (λ (o : ℕ). KeyIs doc (m .names) k o (r .before) (place n) (r .between)) (sym a) there)
 
     -- and each value that the root leads to is in it
     in-array : (o : ℕ) (x : Len) (i : ℕ) (u v : Tree) → For o u → (ts : Trees) → u ≡ arr ts → Leads doc o → formOf (getD doc o 0) ≡ fArray x → i < lengthIn doc o x

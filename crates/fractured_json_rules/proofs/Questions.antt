@@ -1,5 +1,5 @@
--- The questions that read only a value's own bytes: its kind, its number and its string; and the wrong kind, which is 21. Each is
--- what is asked after the opening, which passes in a good document with a good key list.
+-- The questions that read only a value's own bytes: its kind, its number and its string; and the wrong kind, which is
+-- 21. Each is what is asked after the opening, which passes in a good document with a good key list.
 use Prim.Native.Nat.{ℕ, _+_, _≤_, _<_}
 use mathlib.Core.Bool.{Bool, true, false}
 use mathlib.Core.List.{List}

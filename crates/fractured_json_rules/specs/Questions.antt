@@ -20,9 +20,10 @@ use Rattle.fractured_json_rules.specs.KeyList.{countIn, keyList, nameOf}
 use Rattle.fractured_json_rules.specs.Verdict.{header, byteAt, payload, lengthAt, textAt, Numeral, inTurn, member, value, keyBy}
 use Rattle.fractured_json_rules.specs.KeyTable.{roomOf, keyOf}
 
--- ---- Before every question, asked at the cursor c. What a question asks after it has a name of its own (`..Here`; the end's is
--- `walk`, the key's `readKey`), so that a walk of many questions reads the key list and the header once.
+-- ---- before every question, asked at the cursor c
 
+-- What a question asks after its opening has a name of its own (`..Here`; the end's is `walk`, the key's `readKey`), so
+-- that a walk of many questions reads the key list and the header once.
 unfoldable pub opening : {S : Type 0} → List ℕ → List ℕ → ℕ → Reading S (Unit {0})
 opening doc list c = do
   keyList list

@@ -1,4 +1,5 @@
--- One law for each way through the questions of questions.rt: first what they ask after the opening, then the questions themselves.
+-- One law for each way through the questions of questions.rt: first what they ask after the opening, then the questions
+-- themselves.
 use mathlib.Core.Path.{_≡_, sym, ap, _∙_}
 use mathlib.Core.List.{List}
 use Prim.Native.Nat.{ℕ, _-_, _≤_, _<_}

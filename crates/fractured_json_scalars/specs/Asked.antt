@@ -1,5 +1,5 @@
--- The code's own way through the rules of what every question reads first, of kinds and of numbers: by what the constant tables
--- say. proofs/ shows that each is the rules'.
+-- The code's own way through the rules of the type byte, of lengths, of kinds and of numbers: by what the constant
+-- tables say. proofs/ shows that each is the rules'.
 use mathlib.Core.Bool.{true}
 use Prim.Native.Nat.{ℕ, _+_, _<_}
 use mathlib.Core.List.{List}

@@ -1,5 +1,5 @@
-// What every question reads first: the key list, the header and the cursor. Then what most of them go on with: the type byte at the
-// cursor, and the length of a value of the kind that is wanted.
+// What every question reads first: the key list, the header and the cursor. Then what most of them go on with: the type
+// byte at the cursor, and the length of a value of the kind that is wanted.
 use fractured_json_list::check_list;
 use fractured_json_values::header::read_header;
 use fractured_json_values::types::head_of;
@@ -39,12 +39,13 @@ pub fn open_question(doc: &[u8], list: &[u8], at: usize) -> Verdict
     }
 }
 
-// The type byte at the cursor.
+// The type byte at the cursor, or that the document has ended there.
 pub enum Entered {
     Type(u8),
     Refused(Refusal),
 }
 
+// What most questions read first, after the opening.
 pub(crate) fn enter(doc: &[u8], at: usize) -> Entered
     ensures { λ r. ⌜ Enters (now (doc .entry)) at r ⌝ }
 {

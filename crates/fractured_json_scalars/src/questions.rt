@@ -1,6 +1,6 @@
-// The questions that need no key table: a value's kind, a number, a string and its text. Each is right for all bytes, key lists and
-// cursors, and reads only what it needs, in the order of the rules. What it asks after the opening is a function of its own
-// (`.._here`), for walks that open once.
+// The questions that need no key table: a value's kind, a number, a string and its text. Each is right for all bytes,
+// key lists and cursors, and reads only what it needs, in the order of the rules. What it asks after the opening is a
+// function of its own (`.._here`), for walks that open once.
 use crate::enter::Entered;
 use crate::enter::enter;
 use crate::enter::open_question;

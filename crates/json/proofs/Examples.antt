@@ -62,7 +62,7 @@ without-places = (refl, refl, refl, refl)
 pub places-are : (place node ≡ 4) × (place (dict 16 fields) ≡ 16) × (place (leaf 8 sNull) ≡ 8)
 places-are = (refl, refl, refl)
 
--- value 1 and member 1 by their numbers; member 1's key stands at no other place, and there is no value 2 and no member 2
+-- value 1 and member 1 by their numbers; member 1's key does not stand at 20, and there is no value 2 and no member 2
 pub in-it :
     NodeIs nodes 1 (dict 16 fields) × FieldIs fields 1 24 (hex 1 0x62) (dict 40 last) × Within node (dict 40 last)
     × (NodeIs nodes 2 (dict 16 fields) → ⊥) × (FieldIs fields 1 20 (hex 1 0x62) (dict 40 last) → ⊥) × (FieldIs fields 2 24 (hex 1 0x62) (dict 40 last) → ⊥)

@@ -52,7 +52,7 @@ pub struct Case {
     pub question: Question,
     /// The document, or the key list that is checked by itself.
     pub bytes: Vec<u8>,
-    /// The key list beside a document of Fractured JSON, and the keys that are looked up.
+    /// The key list beside a document of Fractured JSON, and then the keys that are looked up, in either format.
     pub beside: Vec<Vec<u8>>,
     /// Where a question is asked in turn.
     pub places: Vec<Place>,

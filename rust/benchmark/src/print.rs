@@ -58,7 +58,7 @@ pub fn table(table: &Table, rows: &[Measured]) {
     match table.kind {
         Kind::Checks => throughput(rows),
         Kind::Rising | Kind::Hostile => rising(rows),
-        Kind::Lookups => {}
+        Kind::Questions => {}
     }
 }
 

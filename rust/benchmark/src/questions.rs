@@ -18,6 +18,8 @@ type Places = [Place; 16];
 struct Sixteens {
     any: Places,
     containers: Places,
+    /// What the containers' values name: the same places, but for BinaryJson.
+    metas: Places,
     numbers: Places,
     /// The array of the numbers, with each index.
     array: Places,
@@ -28,22 +30,26 @@ struct Sixteens {
 }
 
 impl Sixteens {
-    /// Found by a reader's answers: the container of a name, an element of an array, and key and value of a member.
+    /// Found by a reader's answers: the value of a name, the container that a value names, an element of an array, and
+    /// key and value of a member.
     fn find(
-        container: impl Fn(&[u8]) -> u64,
+        value: impl Fn(&[u8]) -> u64,
+        container: impl Fn(u64) -> u64,
         element: impl Fn(u64, u64) -> u64,
         member: impl Fn(u64, u64) -> (u64, u64),
     ) -> Sixteens {
         let each = |name: &str| {
-            let at = container(name.as_bytes());
+            let at = container(value(name.as_bytes()));
             array::from_fn(|i| (at, i as u64))
         };
         let elements = |name| each(name).map(|(array, i)| (element(array, i), 0));
+        let containers = elements("containers");
         let object = each("strings");
         let members = object.map(|(object, j)| member(object, j));
         Sixteens {
             any: elements("any"),
-            containers: elements("containers"),
+            containers,
+            metas: containers.map(|(at, _)| (container(at), 0)),
             numbers: elements("numbers"),
             array: each("numbers"),
             object,
@@ -51,6 +57,13 @@ impl Sixteens {
             strings: members.map(|(_, value)| (value, 0)),
         }
     }
+}
+
+/// A document, what is lent beside it, and where its values stand.
+struct Document {
+    bytes: Vec<u8>,
+    beside: Vec<Vec<u8>>,
+    at: Sixteens,
 }
 
 /// The document of a check, which both readers must accept.
@@ -69,86 +82,97 @@ fn found(answer: Answer<Option<u64>>) -> u64 {
     answered(answer).expect("the root has the name")
 }
 
-pub fn binary_questions() -> Vec<Row> {
+fn binary() -> Document {
     use plain::binary_json::{container, element, member, plain_scan};
     let doc = accepted(Case::binary_check(binary_document(&sixteens())));
-    let meta = |entry| answered(container(&doc, entry));
     let at = Sixteens::find(
-        |name| meta(found(plain_scan(&doc, BINARY_ROOT, name))),
+        |name| found(plain_scan(&doc, BINARY_ROOT, name)),
+        |entry| answered(container(&doc, entry)),
         |array, i| answered(element(&doc, array, i)),
         |object, j| answered(member(&doc, object, j)),
     );
-    let metas = at.containers.map(|(entry, _)| (meta(entry), 0));
-    rows(
-        &doc,
-        &[],
-        [
-            ("kind and size", Asked::BinaryKindAndSize, metas),
-            ("element", Asked::BinaryElement, at.array),
-            ("member", Asked::BinaryMember, at.object),
-            ("entry type", Asked::BinaryEntryType, at.any),
-            ("container", Asked::BinaryContainer, at.containers),
-            ("string", Asked::BinaryString, at.strings),
-            ("number", Asked::BinaryNumber, at.numbers),
-            ("slot", Asked::BinarySlot, at.keys),
-        ],
-    )
-    .collect()
+    Document {
+        bytes: doc,
+        beside: vec![],
+        at,
+    }
 }
 
-pub fn fractured_questions() -> Vec<Row> {
+/// With a key list of so many names, and then the keys of the object of the strings.
+fn fractured(listed: usize) -> Document {
     use plain::fractured_json::{element, first_member, key, member};
     let doc = accepted(fractured_check(fractured_document(&sixteens())));
-    let list = key_list(&[]);
+    let list = key_list(&names(listed));
     let (table, count) = checked_table(&doc, &list);
     let root = FRACTURED_ROOT;
     let at = Sixteens::find(
         |name| found(first_member(&doc, &list, &table, count, root, name)),
+        |value| value,
         |array, i| answered(element(&doc, &list, &table, count, array, i)),
         |object, j| answered(member(&doc, &list, &table, count, object, j)),
     );
     let text = |(at, _)| answered(key(&doc, &list, &table, count, at)).text.to_vec();
     let keys = at.keys.map(text);
-    let beside: Vec<_> = [list].into_iter().chain(keys).collect();
-    let questions = rows(
-        &doc,
-        &beside,
-        [
-            ("end", Asked::FracturedEnd, at.any),
-            ("kind", Asked::FracturedKind, at.any),
-            ("number", Asked::FracturedNumber, at.numbers),
-            ("string", Asked::FracturedString, at.strings),
-            ("element", Asked::FracturedElement, at.array),
-            ("member", Asked::FracturedMember, at.object),
-            (
-                "first member by key",
-                Asked::FracturedFirstMember,
-                at.object,
-            ),
-            ("key", Asked::FracturedKey, at.keys),
-        ],
-    );
-    let long_list = [key_list(&names(256))];
-    let kind = ("kind, 256 names", Asked::FracturedKind, at.any);
-    questions.chain(rows(&doc, &long_list, [kind])).collect()
+    Document {
+        bytes: doc,
+        beside: [list].into_iter().chain(keys).collect(),
+        at,
+    }
 }
 
-/// A row for each question with its places. Before it is timed, both readers must have answered the same.
-fn rows<const N: usize>(
-    doc: &[u8],
-    beside: &[Vec<u8>],
-    questions: [(&'static str, Asked, Places); N],
-) -> impl Iterator<Item = Row> {
-    questions.into_iter().map(|(name, asked, places)| {
+pub fn binary_questions() -> Vec<Row> {
+    let row = |name, asked, places| question(name, asked, binary, places);
+    vec![
+        row("kind and size", Asked::BinaryKindAndSize, |at| at.metas),
+        row("element", Asked::BinaryElement, |at| at.array),
+        row("member", Asked::BinaryMember, |at| at.object),
+        row("entry type", Asked::BinaryEntryType, |at| at.any),
+        row("container", Asked::BinaryContainer, |at| at.containers),
+        row("string", Asked::BinaryString, |at| at.strings),
+        row("number", Asked::BinaryNumber, |at| at.numbers),
+        row("slot", Asked::BinarySlot, |at| at.keys),
+    ]
+}
+
+pub fn fractured_questions() -> Vec<Row> {
+    let row = |name, asked, places| question(name, asked, || fractured(0), places);
+    vec![
+        row("end", Asked::FracturedEnd, |at| at.any),
+        row("kind", Asked::FracturedKind, |at| at.any),
+        row("number", Asked::FracturedNumber, |at| at.numbers),
+        row("string", Asked::FracturedString, |at| at.strings),
+        row("element", Asked::FracturedElement, |at| at.array),
+        row("member", Asked::FracturedMember, |at| at.object),
+        row("first member by key", Asked::FracturedFirstMember, |at| {
+            at.object
+        }),
+        row("key", Asked::FracturedKey, |at| at.keys),
+        question(
+            "kind, 256 names",
+            Asked::FracturedKind,
+            || fractured(256),
+            |at| at.any,
+        ),
+    ]
+}
+
+/// A question at its places. Before it is timed, both readers must have answered the same.
+fn question(
+    name: &'static str,
+    asked: Asked,
+    document: fn() -> Document,
+    places: fn(Sixteens) -> Places,
+) -> Row {
+    row(name, move || {
+        let document = document();
         let case = Case {
             question: Question::Asked(asked),
-            bytes: doc.to_vec(),
-            beside: beside.to_vec(),
-            places: places.to_vec(),
+            bytes: document.bytes,
+            beside: document.beside,
+            places: places(document.at).to_vec(),
         };
-        row(name, move || {
-            asked.compare(&case);
-            (case, places.len())
-        })
+        asked.compare(&case);
+        let per = case.places.len();
+        (case, per)
     })
 }

@@ -122,7 +122,8 @@ pub fn numbers(n: usize) -> Tree {
     Tree::Array((0..n).map(|i| Tree::number(i as f64 / 8.0)).collect())
 }
 
-/// A value of the kind that the last three bits of `kind` choose. A number is `number`, a Boolean says whether that is not 0.
+/// A value of the kind that the last three bits of `kind` choose. A number is `number`, a Boolean says whether that is
+/// not 0.
 pub fn any_value(kind: u32, number: u32) -> Tree {
     match kind & 7 {
         0 => Tree::Null,
@@ -136,8 +137,8 @@ pub fn any_value(kind: u32, number: u32) -> Tree {
     }
 }
 
-/// Four containers of sixteen: values of all kinds, containers, numbers, and members with strings. Every second key of these members is
-/// met before, among the containers, so that as Fractured JSON it is a back reference.
+/// Four containers of sixteen: values of all kinds, containers, numbers, and members with strings. Every second key of
+/// these members is met before, among the containers, so that as Fractured JSON it is a back reference.
 pub fn sixteens() -> Tree {
     let container = |i| match i % 2 {
         0 => numbers(1),

@@ -31,7 +31,7 @@ pub fn row(name: impl Into<String>, make: impl FnOnce() -> (Case, usize) + 'stat
 #[derive(PartialEq)]
 pub enum Kind {
     Checks,
-    Lookups,
+    Questions,
     /// Rows of which each is larger than the one before.
     Rising,
     /// The same, of documents made by whoever knows the hash: timed in few rounds, and their instructions are not counted.
@@ -85,28 +85,28 @@ pub fn tables() -> Vec<Table> {
             list_checks(names),
         ),
         table(
-            Kind::Lookups,
+            Kind::Questions,
             "Quick lookup",
             "object, key",
             "ns",
             lookups(Question::QuickLookup),
         ),
         table(
-            Kind::Lookups,
+            Kind::Questions,
             "Plain scan",
             "object, key",
             "ns",
             lookups(Question::PlainScan),
         ),
         table(
-            Kind::Lookups,
+            Kind::Questions,
             "Questions, BinaryJson",
             "question",
             "ns",
             binary_questions(),
         ),
         table(
-            Kind::Lookups,
+            Kind::Questions,
             "Questions, Fractured JSON",
             "question",
             "ns",

@@ -266,8 +266,8 @@ pub mod text {
     }
 }
 
-/// The calls that are timed: no test stands around them. The questions are inlined, as they take few instructions, and give the number
-/// that is returned.
+/// The calls that are timed: no test stands around them. The questions are inlined, as they take few instructions, and
+/// give the number that is returned.
 pub mod timed {
     pub mod binary_json {
         use czubrotek_sys as sys;
