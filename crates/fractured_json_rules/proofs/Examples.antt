@@ -26,7 +26,7 @@ use Rattle.fractured_json_rules.specs.KeyTable.{roomOf, stored, Checked,
 use Rattle.fractured_json_rules.specs.TreeOf.{spelledIn, keyEnd, endBy, keyTextAt, valueTrees, memberTrees, treeBy, treeAt, treeOf}
 use Rattle.fractured_json_rules.specs.TreeOf as TreeOf
 use Rattle.fractured_json_rules.specs.Places.{contentsBy, valueNode, fracturedNode}
-use Rattle.fractured_json_rules.specs.Questions.{opening, theDocument, theList, KeyRead, textKey, backKey, nameKey, readKey, passKey, inner, endOf, Kind, isNull, isFalse, isTrue, isNumber}
+use Rattle.fractured_json_rules.specs.Questions.{opening, theDocument, theList, KeyRead, textKey, backKey, nameKey, readKey, passKey, endOf, Kind, isNull, isFalse, isTrue, isNumber}
 use Rattle.fractured_json_rules.specs.Questions.{isString, isObject, isArray, kindBy, kindHere, kind, numberBy, numberHere, wantedBy, wantedHere, stringHere, stringBytes}
 use Rattle.fractured_json_rules.specs.Questions.{elementFrom, elementHere, memberFrom, memberHere, Found, valueAt, findFrom, findIn, firstHere, firstMember, keyBytes}
 use Rattle.fractured_json_rules.specs.Questions as Questions
@@ -404,8 +404,8 @@ lines =
     line (hex 14 0x464A01A00C000000000000F07F00) [] 0 (elementAt 3 1) (refused 43 4) ∷
     line (hex 8 0x464A01A06F570001) (5 ∷ 99 ∷ []) 1 (elementAt 3 1) (refused 38 5) ∷
     line (hex 8 0x464A01A06F570001) (5 ∷ 1 ∷ []) 1 (elementAt 3 1) (placeIs 7) ∷
-    line (hex 4 0x464A01A0 ++ replicate inner 0x9F ++ hex 2 0x9E00) [] 0 (elementAt 3 1) (refused 41 (4 + inner)) ∷
-    line (hex 4 0x464A01A0 ++ replicate (inner - 1) 0x9F ++ hex 2 0x9E00) [] 0 (elementAt 3 1) (placeIs (4 + inner)) ∷
+    line (hex 4 0x464A01A0 ++ replicate (deepest - 1) 0x9F ++ hex 2 0x9E00) [] 0 (elementAt 3 1) (refused 41 (4 + (deepest - 1))) ∷
+    line (hex 4 0x464A01A0 ++ replicate (deepest - 2) 0x9F ++ hex 2 0x9E00) [] 0 (elementAt 3 1) (placeIs (4 + (deepest - 1))) ∷
     -- member j: its own key is read
     line (hex 4 0x464A016F) [] 0 (memberAt 3 0) (refused 35 4) ∷
     line (hex 7 0x464A016F046102) [] 0 (memberAt 3 0) (placesAre 4 6) ∷
