@@ -2,8 +2,8 @@
 
    A question's cursor is an offset in the document; every cursor, index, count and key is answered or refused. A call
    returns 0 and writes its values over the first of the lent words at `out`, or returns the number of a refusal (document
-   01, "Numbers of refusal", and document 02, L1) and writes its place over the first. The words that it does not write keep
-   what they held.
+   01, "Numbers of refusal", and document 02, L1 and L4) and writes its place over the first. The words that it does not
+   write keep what they held.
    Where fewer words are lent than the call needs, it returns CZUBROTEK_TOO_FEW and writes nothing at all.
    A good document has at most 16,777,216 bytes, and its containers nest at most 64 levels deep.
 
@@ -21,11 +21,16 @@
 extern "C" {
 #endif
 
-/* ---- BinaryJson: `tree` is the offset of a Meta or an Entry, `slot` that of a slot; the root Meta is at 4 */
+/* ---- BinaryJson: `tree` is the offset of a Meta or an Entry, `slot` that of a slot; the root Meta is at 4. `marks`
+   are bytes, one for each word of the tree, mark k for the word at 4+4k: (S-4)/4 of them, where S is the offset of the
+   string index. A quarter of the document's length is always enough. What they hold before a call is never asked */
 
-/* Checks a document.
-   Returns 0 and writes nothing, or a refusal (1 to 13); needs 1 word. */
-uint32_t bj_check(const uint8_t *doc, size_t doc_len, uint64_t *out, size_t out_len);
+/* Checks a document, and marks the body of each container that passes 12, 8 and 14, its Meta included. After refusals 1
+   to 7 and 15 the marks hold what they held. Otherwise those of the tree's words are 1 in the bodies marked and 0
+   elsewhere, so all 1 after acceptance, and those beyond hold what they held.
+   Returns 0 and writes nothing at `out`, or a refusal (1 to 15); the place of 8 and 12 may be past the document. Needs
+   1 word. */
+uint32_t bj_check(const uint8_t *doc, size_t doc_len, uint8_t *marks, size_t marks_len, uint64_t *out, size_t out_len);
 
 /* Asks for kind and size of the container at a Meta.
    Returns 0 and writes the kind (0 array, 1 object, 2 top-level scalar) and the size, or a refusal; needs 2 words. */

@@ -1,5 +1,5 @@
 #!/usr/bin/env bash
-# Runs the bench on whole inputs: lines and their ends, long lines, deep frames, many lines, one endless line, and output that cannot be written.
+# Runs the bench on whole inputs: lines and their ends, long lines, deep frames, containers in any order, many lines, one endless line, and output that cannot be written.
 set -euo pipefail
 cd "$(dirname "$0")/.."
 work=$(mktemp -d)
@@ -49,6 +49,16 @@ fractured() { printf 464A01; printf '9F%.0s' $(seq 2 "$1"); echo 9E; }
 printf 'frames\n1 B ok\n2 B no 12 516\n3 F ok\n4 F no 41 67\ntotal 4 ok 2\n' >"$work/want"
 (ulimit -s 1024; same 'levels')
 cases=$((cases + 1))
+
+# the longest frame that is all tree takes every mark that the bench lends; [[[]],[]] breadth first; [[],[]] with one array named twice
+tree() { word $((1 + 32 * 16380)); word $((32 * 4093)); printf '02000000%.0s' $(seq 4093); word 0; echo; }
+{
+    tree
+    echo 010400004000000005020000050300002000000085030000000000000000000000000000
+    echo 810200004000000005020000050200000000000000000000
+} >"$work/in"
+printf 'frames\n1 B ok\n2 B ok\n3 B no 14 16\ntotal 3 ok 2\n' >"$work/want"
+same 'container order'
 
 # many lines, which end at every place of a block
 lines=200000

@@ -1,5 +1,6 @@
 /* Runs the bench specimens of document 01 through the C header: the fourteen, the lookups with their counts, and the
-   documents at the limits; and key lists, and texts. Prints a line for each failed case, and the number of cases. */
+   documents at the limits; and containers in any order, marks, key lists, and texts. Prints a line for each failed
+   case, and the number of cases. */
 #include <inttypes.h>
 #include <stdio.h>
 #include <string.h>
@@ -13,6 +14,7 @@ static const uint8_t no_names[] = {0, 0, 0}, a_bc[] = {0, 2, 0, 1, 0, 'a', 2, 0,
 
 static uint8_t doc[longest + 1];
 static size_t len;
+static uint8_t marks[longest / 4];
 static uint32_t keys[2 * most_keys];
 static uint64_t out[5];
 static int cases, failed;
@@ -25,11 +27,16 @@ static void fill(uint8_t byte, size_t times) {
     while (times-- > 0) put(byte);
 }
 
-/* appends bytes in hexadecimal */
-static void add(const char *hex) {
+/* reads bytes in hexadecimal, and answers how many there are */
+static size_t read_hex(const char *hex, uint8_t *to) {
     unsigned byte;
-    for (; sscanf(hex, "%2x", &byte) == 1; hex += 2) put((uint8_t)byte);
+    size_t n = 0;
+    for (; sscanf(hex, "%2x", &byte) == 1; hex += 2) to[n++] = (uint8_t)byte;
+    return n;
 }
+
+/* appends bytes in hexadecimal */
+static void add(const char *hex) { len += read_hex(hex, doc + len); }
 
 static void word(uint32_t w) {
     for (int i = 0; i < 4; i++) put((uint8_t)(w >> (8 * i)));
@@ -63,9 +70,11 @@ static void expect(const char *name, uint32_t returned, uint32_t number, size_t 
     expect(name, returned, number, sizeof((uint64_t[]){__VA_ARGS__}) / sizeof(uint64_t), \
            (const uint64_t[]){__VA_ARGS__})
 
+/* with as many marks as are always enough, which hold 1 and something else by turns */
 static uint32_t binary(void) {
     lend();
-    return bj_check(doc, len, out, 4);
+    for (size_t k = 0; k < len / 4; k++) marks[k] = k % 2 ? untouched : 1;
+    return bj_check(doc, len, marks, len / 4, out, 4);
 }
 
 static uint32_t fractured_with(const uint8_t *list, size_t list_len, size_t words) {
@@ -215,12 +224,27 @@ static void object(unsigned members) {
     }
 }
 
+/* the longest document with the largest tree: an array of empty arrays, which stand in the order opposite to their
+   Entries, and false */
+static void largest_tree(void) {
+    const uint32_t index = longest - 4, children = 2097150, first = 4 + 4 * (1 + children + 1);
+    start("");
+    word(1 + 32 * index);
+    word(32 * (children + 1));
+    for (uint32_t child = children; child > 0; child--) word(5 + 32 * (first + 4 * (child - 1)));
+    fill(0, longest - len);
+}
+
 static void limits(void) {
     start("81010000200000000200000000000000");
     fill(0, longest - len);
     binary_accepts("the longest document");
     put(0);
     EXPECT("one byte more", binary(), 2, longest + 1);
+    largest_tree();
+    binary_accepts("the largest tree");
+    lend();
+    EXPECT("its marks, one too few", bj_check(doc, len, marks, longest / 4 - 3, out, 4), 15, longest - 4);
     start("464A010F");
     word(longest - 8);
     fill('x', longest - len);
@@ -261,6 +285,97 @@ static void limits(void) {
     EXPECT("a full key table", fractured(2 * most_keys), 0, 4096);
     object(4097);
     EXPECT("one key more", fractured(2 * most_keys), 40, 16390, 4096);
+}
+
+/* containers in another order than depth first, and where they may not stand */
+static void container_order(void) {
+    start("010400004000000005020000050300002000000085030000000000000000000000000000");
+    binary_accepts("breadth first");
+    start("01030000400000008502000005020000000000000000000000000000");
+    binary_accepts("the second child first");
+    start("8101000020000000A501000000000000");
+    EXPECT("offset no multiple of 4", binary(), 9, 8);
+    start("0102000022000000850100000000000000000000");
+    EXPECT("container under kind 2", binary(), 9, 8);
+    start("81010000200000008501000000000000");
+    EXPECT("container at S", binary(), 8, 12);
+    start("810100002000000085FFFFFF00000000");
+    EXPECT("container past the document", binary(), 8, 134217724);
+    start("810200004000000005020000050200000000000000000000");
+    EXPECT("container named twice", binary(), 14, 16);
+    start("0102000040000000000000000501000000000000");
+    EXPECT("Meta inside the parent's body", binary(), 14, 8);
+    start("81010000200000000501000000000000");
+    EXPECT("its own Entry as Meta", binary(), 8, 8);
+    start("01030000600000000200000005020000020000000000000000000000");
+    EXPECT("a null Entry as Meta", binary(), 8, 16);
+    start("81010000000000000000000000000000");
+    EXPECT("a word in no body", binary(), 13, 8);
+}
+
+/* puts marks in hexadecimal before untouched ones, and answers how many there are */
+static size_t lend_marks(const char *hex) {
+    memset(marks, untouched, 16);
+    return read_hex(hex, marks);
+}
+
+/* the first marks are these, in hexadecimal, and then come untouched ones */
+static void expect_marks(const char *name, const char *hex) {
+    uint8_t want[16];
+    memset(want, untouched, sizeof want);
+    read_hex(hex, want);
+    cases++;
+    if (memcmp(marks, want, sizeof want) == 0) return;
+    failed++;
+    printf("%s: the marks hold", name);
+    for (size_t k = 0; k < sizeof want; k++) printf(" %02X", marks[k]);
+    printf("\n");
+}
+
+/* checks with these marks lent; a refusal has its place */
+static void marked(const char *name, const char *before, uint32_t number, uint64_t place, const char *after) {
+    size_t lent = lend_marks(before);
+    lend();
+    expect(name, bj_check(doc, len, marks, lent, out, 4), number, number != 0, &place);
+    expect_marks(name, after);
+}
+
+/* what lent marks hold afterwards */
+static void marks_afterwards(void) {
+    start("01030000400000008502000005020000200000000000000000000000");
+    marked("two bodies meet", "0909090909", 14, 16, "0101010001");
+    start("810200004000000005020000050200000000000000000000");
+    marked("named twice, and a mark beyond", "FFFFFFFF07", 14, 16, "0101010107");
+
+    start("010100000000000000000000");
+    marked("no marks", "", 15, 8, "");
+    start("01010000000000000000000000");
+    marked("no marks, but 7 first", "", 7, 12, "");
+    marked("one byte of a number", "FF", 7, 12, "FF");
+    start("81010000030000000000000000000000");
+    marked("one mark too few", "AA", 15, 12, "AA");
+    marked("just enough, kind 3", "AAAA", 8, 4, "0000");
+
+    start("010100000000000000000000");
+    marked("accepted, and marks beyond", "FF07FF", 0, 0, "0107FF");
+    start("010100000000000001000000");
+    marked("slots past the end", "FF07FF", 4, 8, "FF07FF");
+    start("81010000230000000000000000000000");
+    marked("kind 3 at the root", "FFFF07", 8, 4, "000007");
+    start("01030000410000001C0000001C0000000900000000000000010000002004000000");
+    marked("a key twice", "FFFFFFFFFF07", 11, 12, "010101010107");
+    start("810200004000000005020000060000000000000000000000");
+    marked("type 6 after a finished child", "FFFFFFFF07", 9, 12, "0101010107");
+    start("810200002000000005020000000000000000000000000000");
+    marked("a word between two bodies", "00000000", 13, 12, "01010001");
+    start("01030000200000000502000000000000000000000000000000000000");
+    marked("another behind them", "FFFFFFFFFF", 13, 12, "0101000100");
+
+    start("010100000000000000000000");
+    lend_marks("FF");
+    lend();
+    expect("marks, too few words", bj_check(doc, len, marks, 1, out, 0), CZUBROTEK_TOO_FEW, 0, NULL);
+    expect_marks("marks, too few words", "FF");
 }
 
 /* forgets what the first words of the key table hold */
@@ -386,6 +501,8 @@ int main(void) {
     binary_questions();
     fractured_questions();
     limits();
+    container_order();
+    marks_afterwards();
     table();
     lists();
     global_keys();

@@ -14,7 +14,7 @@ enum { deepest = 64, most_names = 65535, stack_size = 2 << 20, least = 256, unto
 /* what a call must stay below: with any list; and without names, if it walks over values and if it does not */
 enum { limit = 1 << 20, limit_walking = 1 << 16, limit_not_walking = 1 << 12 };
 
-static uint8_t doc[1 << 14], list[3 + 4 * most_names];
+static uint8_t doc[1 << 14], marks[sizeof doc / 4], list[3 + 4 * most_names];
 static size_t len, list_len, count;
 static uint32_t keys[8192];
 static uint64_t out[4];
@@ -122,7 +122,7 @@ static void names(size_t n) {
 #define KEYS doc, len, list, list_len, keys, 8192
 #define B (const uint8_t *)"b", 1
 
-CALL(bj_check, doc, len)
+CALL(bj_check, doc, len, marks, sizeof marks)
 CALL(bj_kind_and_size, doc, len, 4)
 CALL(bj_element, doc, len, 4, 0)
 CALL(bj_member, doc, len, 4, 0)

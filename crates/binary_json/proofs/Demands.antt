@@ -1,20 +1,22 @@
--- Demands 1 to 3 of the code's own answers. A premise such as `told r ≡ verdict doc` is the contract of the call that
--- answered r; what follows, of r itself, is what the caller may rely on. Each is the contract put together with a theorem about
--- the rules.
+-- Demands 1 to 3 of the code's own answers. A premise such as `toldSized r ≡ ask (kindAndSize doc c)` is the contract
+-- of the call that answered r; what follows, of r itself, is what the caller may rely on. Each is the contract put
+-- together with a theorem about the rules.
 use mathlib.Core.Path.{_≡_, refl, sym, ap, _∙_}
 use mathlib.Core.Logic.{_↔_}
 use mathlib.Core.Bool.{Bool, true, false}
 use mathlib.Core.List.{List, []}
 use Prim.Native.Nat.{ℕ, zero, suc, _+_, _*_, _≤_, _<_}
+use lib.ListN.{length}
 use Rattle.json.specs.Bytes.{part}
 use Rattle.json.specs.Number.{binary64, floatTree}
-use Rattle.json.specs.Reading.{halt, done, Asked, ask, answers, refuses, told}
+use Rattle.json.specs.Reading.{halt, done, Asked, ask, answers, refuses, verdictOf, told}
 use Rattle.json.specs.Span as Text
 use Rattle.json.specs.Tree.{Tree, null, bool, num, str, arr, obj, Trees, Members, size, sizem, ElementIs, MemberIs, IsContainer, NoNumber, NoString, NoObject, NoContainer}
 use Rattle.json.specs.declared.Verdict.{Verdict}
 use Rattle.json.proofs.Cases.{refusal, verdictIs, verdict-is, answered-exactly}
 use Rattle.binary_json_rules.specs.Areas.{word, high, count, slot, content}
 use Rattle.binary_json_rules.specs.Meaning.{EntryIs, ContainerIs, Means}
+use Rattle.binary_json_rules.specs.Marks.{words, fill}
 use Rattle.binary_json_rules.specs.Verdict.{verdict}
 use Rattle.binary_json_rules.specs.Leads.{EntryOf, Leads}
 use Rattle.binary_json_rules.specs.Questions.{kindAndSize, element, keyEntryOf, entryOf, memberAt, slotText, slotBytes, entryType, containerAt, stringAt, stringBytes, numberAt}
@@ -22,7 +24,10 @@ use Rattle.binary_json_rules.specs.Questions as Questions
 use Rattle.binary_json_rules.specs.Halving.{digits, turnsOf}
 use Rattle.binary_json_rules.specs.Lookup.{Found, entry, absent, Counted, counted, quickLookup, Lookup, lookup, lookupOf, textHalving, keyTurns, plainScan}
 use Rattle.binary_json_rules.specs.Answers.{sizedAs, typedAs}
+use Rattle.binary_json_rules.proofs.Afterwards.{Ends, AtRefusal, Walked}
 use Rattle.binary_json_rules.proofs.Demands as Rules
+use Rattle.binary_json_check.specs.Told.{toldMarks}
+use Rattle.binary_json_check.proofs.Told.{verdict-told}
 use Rattle.binary_json_areas.specs.declared.offsets.TreeOffset.{TreeOffset}
 use Rattle.binary_json_areas.specs.declared.offsets.SlotOffset.{SlotOffset}
 use Rattle.binary_json_answers.specs.Told.{toldSized, toldTree, toldMember, toldType, toldSpan, toldBits, toldScan, toldLookup}
@@ -188,10 +193,23 @@ typed-case (arr ts) = refl
 typed-case (obj ms) = refl
 
 -- ---- Demand 1: "Bad input is refused with the number and place that document 01 fixes": the check and each question refuse with
--- a number and place exactly if their rule does, for all bytes, cursors, indices and keys. A text is empty at a refusal.
+-- a number and place exactly if their rule does, for all bytes, marks, cursors, indices and keys. A text is empty at a refusal.
 
-pub refused-as-fixed : (doc : List ℕ) (n p : ℕ) (r : Verdict) → told r ≡ verdict doc → (r ≡ Verdict.Refused (refusal n p)) ↔ (verdict doc ≡ refuses n p)
-refused-as-fixed doc n p r e = answered-exactly told verdictIs verdict-is r e (Verdict.Refused (refusal n p))
+pub refused-as-fixed : (doc marks after : List ℕ) (n p : ℕ) (r : Verdict) → toldMarks r after ≡ verdict doc marks
+    → (r ≡ Verdict.Refused (refusal n p)) ↔ (verdictOf (verdict doc marks) ≡ refuses n p)
+refused-as-fixed doc marks after n p r e = answered-exactly told verdictIs verdict-is r (verdict-told r after ∙ ap verdictOf e) (Verdict.Refused (refusal n p))
+
+-- what the lent marks hold after the check, whatever its answer: as they were after 1 to 7 and 15; after 8 to 14 and
+-- where the document is accepted, those of the tree are 0 or 1, and those beyond are as they were
+pub marks-left : (doc marks after : List ℕ) (r : Verdict) → toldMarks r after ≡ verdict doc marks → Ends (AtRefusal doc marks) (Walked doc marks) (toldMarks r after)
+marks-left doc marks after r e = rw e (Rules.marks-afterwards doc marks)
+
+-- what they held before is never asked: with marks enough in both buffers, both calls give the same answer
+pub marks-never-asked : (doc ms ns before after : List ℕ) (r q : Verdict) → words doc ≤ length ms → words doc ≤ length ns → toldMarks r before ≡ verdict doc ms → toldMarks q after ≡ verdict doc ns
+    → r ≡ q
+marks-never-asked doc ms ns before after r q a b e f =
+    sym (verdict-is r)
+    ∙ (ap verdictIs (verdict-told r before ∙ (ap verdictOf e ∙ (Rules.same-verdict doc ms ns a b ∙ (sym (ap verdictOf f) ∙ sym (verdict-told q after))))) ∙ verdict-is q)
 
 module _ (doc : List ℕ) (c n p : ℕ) where
   -- at a Meta
@@ -240,12 +258,19 @@ module _ (doc : List ℕ) (c n p : ℕ) where
   pub slot-text-refused : (bytes : List ℕ) → bytes ≡ slotBytes doc c → ask (slotText doc c) ≡ refuses n p → bytes ≡ []
   slot-text-refused bytes e h = e ∙ rw h
 
--- ---- Demand 2: "A document is accepted exactly if it keeps the format's rules." "Each accepted document means one tree."
+-- ---- Demand 2: "A document is accepted exactly if it keeps the format's rules", with marks enough. "Each accepted document means one tree."
 
-pub accepted-exactly : (doc : List ℕ) (r : Verdict) → told r ≡ verdict doc → (r ≡ Verdict.Accepted) ↔ ((t : Tree) × Means doc t)
-accepted-exactly doc r e =
-    let (to, from) = answered-exactly told verdictIs verdict-is r e Verdict.Accepted in
-    (λ a. Rules.accepted-exactly doc .0 (to a), λ m. from (Rules.accepted-exactly doc .1 m))
+pub accepted-exactly : (doc marks after : List ℕ) (r : Verdict) → toldMarks r after ≡ verdict doc marks → (r ≡ Verdict.Accepted) ↔ ((words doc ≤ length marks) × ((t : Tree) × Means doc t))
+accepted-exactly doc marks after r e =
+    let (to, from) = answered-exactly told verdictIs verdict-is r (verdict-told r after ∙ ap verdictOf e) Verdict.Accepted in
+    let (sound, complete) = Rules.accepted-exactly doc marks in (
+      λ a. let d : verdict doc marks ≡ done tt after = sym e ∙ ap (λ v. toldMarks v after) a in sound (d ∙ ap (λ z. done tt z) (Rules.accepted-marks doc marks after d)),
+      λ m. from (ap verdictOf (complete m)),
+    )
+
+-- each mark of the tree is then 1, and those beyond are as they were
+pub accepted-marks : (doc marks after : List ℕ) (r : Verdict) → toldMarks r after ≡ verdict doc marks → r ≡ Verdict.Accepted → after ≡ fill marks 0 (words doc) 1
+accepted-marks doc marks after r e a = Rules.accepted-marks doc marks after (sym e ∙ ap (λ v. toldMarks v after) a)
 
 pub one-tree : (doc : List ℕ) (t u : Tree) → Means doc t → Means doc u → t ≡ u
 one-tree doc t u m n = Rules.one-tree doc t u m n

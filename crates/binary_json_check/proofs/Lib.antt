@@ -1,3 +1,5 @@
+pub mod Told
 pub mod Slots
 pub mod Walks
 pub mod Checks
+pub mod MarkLaws

@@ -1,2 +1,4 @@
+pub mod Told
 pub mod Slots
 pub mod Walks
+pub mod Taken

@@ -1,20 +1,23 @@
 -- Demands 2 and 3 over the rules of BinaryJson, each theorem under the demand's words. Demand 1 is the code's: `check` and
--- every question are total functions of all bytes, cursors and keys, and the reader is proved equal to them.
+-- every question are total functions of all bytes, marks, cursors and keys, and the reader is proved equal to them.
 use mathlib.Core.Path.{_≡_, refl, sym, ap, _∙_}
 use mathlib.Core.Logic.{_↔_}
 use mathlib.Core.Bool.{Bool}
 use mathlib.Core.List.{List, []}
 use Prim.Native.Nat.{ℕ, _+_, _*_, _^_, _≤_, _<_}
 use native.Mathlib.Omega.{arith}
-use Rattle.json.specs.Reading.{ask, answers, refuses}
+use lib.ListN.{length, getD}
+use Rattle.json.specs.Reading.{done, ask, answers, refuses, verdictOf}
 use Rattle.json.specs.Bytes.{number, part}
 use Rattle.json.specs.Number.{binary64, floatTree}
 use Rattle.json.specs.Span.{Span}
 use Rattle.json.specs.Texts.{compareNumbers}
 use Rattle.json.specs.Tree.{Tree, num, str, arr, obj, Trees, Members, size, sizem, ElementIs, MemberIs, Lacks, IsContainer, NoNumber, NoString, NoObject, NoContainer, Subtree}
+use Rattle.json.proofs.Alike.{Alike, alike-verdict}
 use Rattle.json.proofs.Tree.{element-below, member-below}
 use Rattle.binary_json_rules.specs.Areas.{word, high, count, slot, content}
 use Rattle.binary_json_rules.specs.Meaning.{EntryIs, ContainerIs, Means}
+use Rattle.binary_json_rules.specs.Marks.{words, fill, unmarked}
 use Rattle.binary_json_rules.specs.Verdict.{verdict}
 use Rattle.binary_json_rules.specs.TreeOf.{treeOf}
 use Rattle.binary_json_rules.specs.Leads.{EntryOf, Leads, named}
@@ -24,6 +27,9 @@ use Rattle.binary_json_rules.specs.Lookup.{Found, entry, absent, keyItem
 use Rattle.binary_json_rules.specs.Answers.{sizedAs, typedAs}
 use Rattle.binary_json_rules.proofs.Sound.{sound}
 use Rattle.binary_json_rules.proofs.Complete.{complete}
+use Rattle.binary_json_rules.proofs.Afterwards.{Ends, AtRefusal, Walked, afterwards}
+use Rattle.binary_json_rules.proofs.Marks.{unmarked-first}
+use Rattle.binary_json_rules.proofs.Before.{Like, Kept, whatever-before}
 use Rattle.binary_json_rules.proofs.Trees.{means-tree}
 use Rattle.binary_json_rules.proofs.Nodes as Nodes
 use Rattle.binary_json_rules.proofs.Answers as Answers
@@ -46,10 +52,45 @@ below-digits m = Halves.below-digits m
 pub digits-exact : (m : ℕ) → 0 < m → 2 ^ digits m ≤ 2 * m
 digits-exact m p = Halves.digits-exact m p
 
--- ---- Demand 2: "A document is accepted exactly if it keeps the format's rules as condensed in 01."
+-- ---- Demand 2: "A document is accepted exactly if it keeps the format's rules as condensed in 01", with marks enough for
+-- the words of its tree. Afterwards each of these marks is 1, and those beyond are as they were.
 
-pub accepted-exactly : (doc : List ℕ) → (verdict doc ≡ answers tt) ↔ ((t : Tree) × Means doc t)
-accepted-exactly doc = (λ a. sound doc tt a, λ m. complete doc tt (m .0) (m .1))
+pub accepted-exactly : (doc marks : List ℕ) → (verdict doc marks ≡ done tt (fill marks 0 (words doc) 1)) ↔ ((words doc ≤ length marks) × ((t : Tree) × Means doc t))
+accepted-exactly doc marks = (
+  λ a. let x = sound doc marks a in (x .many, (x .tree, x .means)),
+  λ m. let (after, e) = complete doc (m .1 .0) (m .1 .1) marks (m .0) in let f = sound doc marks e .after in rw (← f) e,
+)
+
+-- whatever the marks are afterwards, a document that is accepted leaves those
+pub accepted-marks : (doc marks after : List ℕ) → verdict doc marks ≡ done tt after → after ≡ fill marks 0 (words doc) 1
+accepted-marks doc marks after a = sound doc marks a .after
+
+-- with fewer marks it never is
+pub too-few-marks : (doc marks after : List ℕ) → length marks < words doc → verdict doc marks ≡ done tt after → ⊥
+too-few-marks doc marks after h a = let m = sound doc marks a .many in omega arith
+
+-- ---- "After 7 and 15 all marks are set to 0, and then 1 exactly for words of bodies marked; before that, and beyond the tree's
+-- marks, the buffer is unchanged": after any verdict. Which of them are 1 is what `verdict` itself says.
+
+pub marks-afterwards : (doc marks : List ℕ) → Ends (AtRefusal doc marks) (Walked doc marks) (verdict doc marks)
+marks-afterwards doc marks = afterwards doc marks
+
+-- What they held before is never asked: with marks enough in both, two buffers get the same number and place; and at the end
+-- those of the tree are the same in both, or at a refusal both are as they were lent (by `marks-afterwards`, after 1 to 7).
+module _ (doc ms ns : List ℕ) (left : words doc ≤ length ms) (right : words doc ≤ length ns) where
+  pub never-asked : Alike (Kept doc ms ns left right) (Like doc) (verdict doc ms) (verdict doc ns)
+  never-asked = whatever-before doc ms ns left right
+
+  pub same-verdict : verdictOf (verdict doc ms) ≡ verdictOf (verdict doc ns)
+  same-verdict = alike-verdict (Kept doc ms ns left right) (Like doc) (verdict doc ms) (verdict doc ns) never-asked
+
+-- ---- "Afterwards 13 stands at the first unmarked word": the word whose place 13 is given at is the first whose mark is 0
+
+pub first-unmarked : (marks : List ℕ) (n : ℕ) → unmarked marks 0 n < n
+    → (getD marks (unmarked marks 0 n) 0 ≡ 0) × ((k : ℕ) → k < unmarked marks 0 n → getD marks k 0 ≡ 0 → ⊥)
+first-unmarked marks n h =
+    let f = unmarked-first marks 0 n (omega arith) in
+    (f .0, λ k b. f .1 k (omega arith) b)
 
 -- ---- "Each accepted document means one tree."
 

@@ -1,4 +1,5 @@
 pub mod Areas
+pub mod Marks
 pub mod Meaning
 pub mod Verdict
 pub mod TreeOf

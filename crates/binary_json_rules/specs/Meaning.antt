@@ -1,19 +1,22 @@
 -- Which BinaryJson documents keep the rules of the format, and which tree each of them means: document 01, section
--- "BinaryJson, laid out". This says what a good document is. It says nothing of the order in which a check looks at it, nor
--- of numbers of refusal. What Entries stand for, and the order in which containers stand, are two separate definitions.
+-- "BinaryJson, laid out", with the container order of document 02, request L4. This says what a good document is. It says
+-- nothing of the order in which a check looks at it, nor of numbers of refusal. What Entries stand for, and where
+-- containers stand, are separate definitions.
 use Prim.Native.Nat.{ℕ, suc, _+_, _-_, _*_, _%_, _≤_, _<_}
 use mathlib.Core.Bool.{true, false}
 use mathlib.Core.List.{List}
 use mathlib.Core.Path.{_≡_}
-use lib.Dec.{T}
+use lib.Dec.{T, ltb, leb}
 use lib.ListN.{length, getD}
 use Rattle.json.specs.Bytes.{number}
+use Rattle.json.specs.Choose.{choose}
 use Rattle.json.specs.Limits.{leastBinary, longest, deepest}
 use Rattle.json.specs.Number.{binary64, finite, floatTree}
 use Rattle.json.specs.Texts.{compareTexts}
 use Rattle.json.specs.declared.Order.the-variants.{Below}
 use Rattle.json.specs.Tree.{Tree, null, bool, num, str, arr, obj, Trees, none, more, Members, end, member, size, sizem, depth}
 use Rattle.binary_json_rules.specs.Areas.{word, low, high, index, count, slot, text, content, numbers, Kind, kArray, kObject, kScalar, kindOf, tFalse, tTrue, tNull, tString, tNumber, tContainer, typeOf}
+use Rattle.binary_json_rules.specs.Marks.{words, wordPlace}
 
 -- ---- what an offset may name
 
@@ -78,35 +81,71 @@ ContainerIs doc (str s) c = ScalarIs doc (str s) c
 ContainerIs doc (arr ts) c = Meta doc c kArray (size ts) (size ts) × EntriesAre doc ts (c + 4)
 ContainerIs doc (obj ms) c = Meta doc c kObject (sizem ms) (2 * sizem ms) × MembersAre doc ms 0 (c + 4) (c + 4 + 4 * sizem ms)
 
--- ---- the order of containers: depth first
+-- ---- where containers stand: in any order, each after its parent's Meta, and together they tile the tree
 
--- The containers below the Entry at a fill the bytes from d, the place due, up to e: the first child starts where its
--- parent's body ends, and each later child where the subtree before it ended.
+-- The containers at and below the Entry at a, which is one of the container at c: each stands at a multiple of 4, past the
+-- Meta of the container whose Entry names it.
 abbrev mutual
-  pub Fills : List ℕ → Tree → ℕ → ℕ → ℕ → Type 0
-  Fills doc null a d e = e ≡ d
-  Fills doc (bool b) a d e = e ≡ d
-  Fills doc (num s m) a d e = e ≡ d
-  Fills doc (str s) a d e = e ≡ d
-  Fills doc (arr ts) a d e = (high doc a ≡ d) × FillsAll doc ts (d + 4) (d + 4 + 4 * size ts) e
-  Fills doc (obj ms) a d e = (high doc a ≡ d) × FillsMembers doc ms (d + 4 + 4 * sizem ms) (d + 4 + 8 * sizem ms) e
+  pub Placed : List ℕ → Tree → ℕ → ℕ → Type 0
+  Placed doc null c a = Unit {0}
+  Placed doc (bool b) c a = Unit {0}
+  Placed doc (num s m) c a = Unit {0}
+  Placed doc (str s) c a = Unit {0}
+  Placed doc (arr ts) c a = (high doc a % 4 ≡ 0) × (c < high doc a) × PlacedAll doc ts (high doc a) (high doc a + 4)
+  Placed doc (obj ms) c a = (high doc a % 4 ≡ 0) × (c < high doc a) × PlacedMembers doc ms (high doc a) (high doc a + 4 + 4 * sizem ms)
 
-  pub FillsAll : List ℕ → Trees → ℕ → ℕ → ℕ → Type 0
-  FillsAll doc none a d e = e ≡ d
-  FillsAll doc (more t ts) a d e = (m : ℕ) × Fills doc t a d m × FillsAll doc ts (a + 4) m e
+  pub PlacedAll : List ℕ → Trees → ℕ → ℕ → Type 0
+  PlacedAll doc none c a = Unit {0}
+  PlacedAll doc (more t ts) c a = Placed doc t c a × PlacedAll doc ts c (a + 4)
 
-  pub FillsMembers : List ℕ → Members → ℕ → ℕ → ℕ → Type 0
-  FillsMembers doc end a d e = e ≡ d
-  FillsMembers doc (member x t ms) a d e = (m : ℕ) × Fills doc t a d m × FillsMembers doc ms (a + 4) m e
+  pub PlacedMembers : List ℕ → Members → ℕ → ℕ → Type 0
+  PlacedMembers doc end c a = Unit {0}
+  PlacedMembers doc (member x t ms) c a = Placed doc t c a × PlacedMembers doc ms c (a + 4)
 
--- the containers of the whole tree, from the root container at 4 up to e
-abbrev pub RootFills : List ℕ → Tree → ℕ → Type 0
-RootFills doc null e = e ≡ 12
-RootFills doc (bool b) e = e ≡ 12
-RootFills doc (num s m) e = e ≡ 12
-RootFills doc (str s) e = e ≡ 12
-RootFills doc (arr ts) e = FillsAll doc ts 8 (8 + 4 * size ts) e
-RootFills doc (obj ms) e = FillsMembers doc ms (8 + 4 * sizem ms) (8 + 8 * sizem ms) e
+-- the containers below the container at c
+abbrev pub PlacedUnder : List ℕ → Tree → ℕ → Type 0
+PlacedUnder doc null c = Unit {0}
+PlacedUnder doc (bool b) c = Unit {0}
+PlacedUnder doc (num s m) c = Unit {0}
+PlacedUnder doc (str s) c = Unit {0}
+PlacedUnder doc (arr ts) c = PlacedAll doc ts c (c + 4)
+PlacedUnder doc (obj ms) c = PlacedMembers doc ms c (c + 4 + 4 * sizem ms)
+
+-- 1 if the word k of the tree, which stands at 4 + 4k, is one of the w words from o on, else 0
+unfoldable pub within : ℕ → ℕ → ℕ → ℕ
+within o w k = choose (leb o (wordPlace k)) (choose (ltb (wordPlace k) (o + 4 * w)) 1 0) 0
+
+-- In how many bodies, Meta included, the word k stands: those of the containers at and below the Entry at a, counted
+-- once for every Entry that names a container. So a container that two Entries name counts twice.
+abbrev mutual
+  pub bodies : List ℕ → Tree → ℕ → ℕ → ℕ
+  bodies doc null a k = 0
+  bodies doc (bool b) a k = 0
+  bodies doc (num s m) a k = 0
+  bodies doc (str s) a k = 0
+  bodies doc (arr ts) a k = within (high doc a) (1 + size ts) k + bodiesAll doc ts (high doc a + 4) k
+  bodies doc (obj ms) a k = within (high doc a) (1 + 2 * sizem ms) k + bodiesMembers doc ms (high doc a + 4 + 4 * sizem ms) k
+
+  pub bodiesAll : List ℕ → Trees → ℕ → ℕ → ℕ
+  bodiesAll doc none a k = 0
+  bodiesAll doc (more t ts) a k = bodies doc t a k + bodiesAll doc ts (a + 4) k
+
+  pub bodiesMembers : List ℕ → Members → ℕ → ℕ → ℕ
+  bodiesMembers doc end a k = 0
+  bodiesMembers doc (member x t ms) a k = bodies doc t a k + bodiesMembers doc ms (a + 4) k
+
+-- those of the container at c and of the containers below it
+abbrev pub bodiesFrom : List ℕ → Tree → ℕ → ℕ → ℕ
+bodiesFrom doc null c k = within c 2 k
+bodiesFrom doc (bool b) c k = within c 2 k
+bodiesFrom doc (num s m) c k = within c 2 k
+bodiesFrom doc (str s) c k = within c 2 k
+bodiesFrom doc (arr ts) c k = within c (1 + size ts) k + bodiesAll doc ts (c + 4) k
+bodiesFrom doc (obj ms) c k = within c (1 + 2 * sizem ms) k + bodiesMembers doc ms (c + 4 + 4 * sizem ms) k
+
+-- every word of the tree, from 4 to S, stands in one body, and in one only
+abbrev pub Tiles : List ℕ → Tree → Type 0
+Tiles doc t = (k : ℕ) → k < words doc → bodiesFrom doc t 4 k ≡ 1
 
 -- ---- the string index
 
@@ -132,5 +171,6 @@ pub record Means (doc : List ℕ) (t : Tree) : Type 0 where
   pub ascending : (k : ℕ) → suc k < count doc → compareTexts (content doc k) (content doc (suc k)) ≡ Below
   pub numbers-step : (length doc - numbers doc) % 8 ≡ 0
   pub root : ContainerIs doc t 4
-  pub filled : RootFills doc t (index doc)
+  pub placed : PlacedUnder doc t 4
+  pub tiled : Tiles doc t
   pub nested : depth t ≤ deepest

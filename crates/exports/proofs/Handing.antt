@@ -7,7 +7,8 @@ use borrow.Author.Tests.{lt-ltb, le-ltb}
 use lib.Dec.{ltb}
 use lib.ListN.{length}
 use Rattle.json.specs.Choose.{choose}
-use Rattle.json.specs.Reading.{Asked, told}
+use Rattle.json.specs.Reading.{Asked, keptOf, verdictOf, told}
+use Rattle.json.specs.declared.Verdict.{Verdict}
 use Rattle.json.specs.Texts.{compareTexts}
 use Rattle.text.specs.Steps.{compareSteps}
 use Rattle.text.specs.declared.Comparison.{Comparison}
@@ -15,7 +16,10 @@ use Rattle.fractured_json_rules.specs.KeyTable.{checked}
 use Rattle.fractured_json_check.specs.Told.{toldChecked}
 use Rattle.fractured_json_check.specs.declared.answers.Checked.{Checked}
 use Rattle.binary_json_rules.specs.Lookup.{Lookup}
-use Rattle.encoding.specs.Encoding.{Coded, coded, hands, given, handed, counted, checkedBy, compared}
+use Rattle.binary_json_rules.specs.Verdict.{verdict}
+use Rattle.binary_json_check.specs.Told.{toldMarks}
+use Rattle.binary_json_check.proofs.Told.{verdict-told, marks-told}
+use Rattle.encoding.specs.Encoding.{Coded, coded, nothing, hands, given, handed, counted, checkedBy, compared}
 
 pub too-few : (need : ℕ) (words : List ℕ) (c : Coded) → length words < need → hands 255 words ≡ handed need words c
 unfolding handed choose
@@ -50,8 +54,22 @@ module _ (doc list keys left words after : List ℕ) (r : ℕ) (c : Checked) (e 
   unfolding choose
   table-left = rw (le-ltb (length words) 2 h) (ap (λ x. x .words) e)
 
-pub table-kept : (keys rest words : List ℕ) → length words < 2 → keys ≡ choose (ltb (length words) 2) keys rest
-unfolding choose
-table-kept keys rest words h = rw (lt-ltb (length words) 2 h)
+-- ---- the check with marks
 
-pub ruleset check-laws = (too-few, check-handed, table-left, table-kept, needs)
+module _ (doc marks left words after : List ℕ) (r : ℕ) (v : Verdict) (e : toldMarks v left ≡ verdict doc marks) (h : 1 ≤ length words) where
+  pub verdict-handed : hands r after ≡ given words (coded nothing (told v)) → hands r after ≡ handed 1 words (coded nothing (verdictOf (verdict doc marks)))
+  unfolding handed choose
+  verdict-handed g = rw (le-ltb (length words) 1 h) (g ∙ ap (λ x. given words (coded nothing x)) (verdict-told v left ∙ ap verdictOf e))
+
+  pub marks-left : left ≡ choose (ltb (length words) 1) marks (keptOf (verdict doc marks))
+  unfolding choose
+  marks-left = rw (le-ltb (length words) 1 h) (marks-told v left ∙ ap keptOf e)
+
+-- where too few words are lent for the answer, what else is lent stays
+pub lent-kept : (need : ℕ) (lent rest words : List ℕ) → length words < need → lent ≡ choose (ltb (length words) need) lent rest
+unfolding choose
+lent-kept need lent rest words h = rw (lt-ltb (length words) need h)
+
+pub ruleset check-laws = (too-few, check-handed, table-left, lent-kept, needs)
+
+pub ruleset marks-laws = (too-few, verdict-handed, marks-left, lent-kept, needs)

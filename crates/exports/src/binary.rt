@@ -3,21 +3,26 @@ use binary_json::SlotOffset;
 use binary_json::TreeOffset;
 use encoding::words::TOO_FEW;
 ghost use mathlib.Core.Path.{_≡_};
-ghost use Rattle.json.specs.Reading.{ask};
+ghost use lib.Dec.{ltb};
+ghost use lib.ListN.{length};
+ghost use Rattle.json.specs.Choose.{choose};
+ghost use Rattle.json.specs.Reading.{ask, keptOf, verdictOf};
 ghost use Rattle.binary_json_rules.specs.Verdict.{verdict};
 ghost use Rattle.binary_json_rules.specs.Questions.{kindAndSize, element, memberAt as member, entryType, containerAt, stringAt, numberAt, slotText};
 ghost use Rattle.binary_json_rules.specs.Lookup.{quickLookup, lookupOf, plainScan};
 ghost use Rattle.encoding.specs.Encoding.{hands, handed, coded, nothing, one, placeAndLength, sized, memberAt, found, counted};
 
-// The check.
+// The check with lent marks. Where no word is lent for the answer, the marks too stay as they were.
 #[no_mangle]
-pub extern "C" fn bj_check(doc: &[u8], out: &mut [u64]) -> u32
-    ensures { λ r. ⌜ hands r (now (out .exit)) ≡ handed 1 (now (out .entry)) (coded nothing (verdict (now (doc .entry)))) ⌝ }
+pub extern "C" fn bj_check(doc: &[u8], marks: &mut [u8], out: &mut [u64]) -> u32
+    ensures { λ r. ⌜ hands r (now (out .exit)) ≡ handed 1 (now (out .entry)) (coded nothing (verdictOf (verdict (now (doc .entry)) (now (marks .entry))))) ⌝ }
+    ensures { λ r. ⌜ now (marks .exit) ≡ choose (ltb (length (now (out .entry))) 1) (now (marks .entry)) (keptOf (verdict (now (doc .entry)) (now (marks .entry)))) ⌝ }
 {
     if out.len() < 1 {
         return TOO_FEW;
     }
-    encoding::binary::give_verdict(out, binary_json::check(doc))
+    let v = binary_json::check(doc, marks);
+    encoding::binary::give_verdict(out, v)
 }
 
 // Kind and size of the container at a Meta.

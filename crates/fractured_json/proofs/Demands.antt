@@ -7,7 +7,7 @@ use mathlib.Core.Logic.{_↔_}
 use mathlib.Core.Path.{_≡_, refl, sym, ap, _∙_}
 use lib.ListN.{length, getD}
 use Rattle.json.specs.Bytes.{Bytes, part}
-use Rattle.json.specs.Reading.{Outcome, halt, done, Asked, ask, answers, refuses, told}
+use Rattle.json.specs.Reading.{Outcome, halt, done, Asked, ask, answers, refuses, told, keptOf}
 use Rattle.json.specs.Span.{Span}
 use Rattle.json.specs.Tree.{Tree, null, bool, num, str, arr, obj, Trees, Members, size, sizem, ElementIs, MemberIs, Lacks, NoNumber, NoString, NoArray, NoObject}
 use Rattle.json.specs.declared.Verdict.{Verdict}
@@ -15,7 +15,7 @@ use Rattle.json.proofs.Cases.{refusal, verdictIs, verdict-is, answered-exactly}
 use Rattle.json.proofs.Reading.{halt≢done}
 use Rattle.fractured_json_rules.specs.Meaning.{Names, Lists, noKey, Keys, Means}
 use Rattle.fractured_json_rules.specs.KeyList.{keyList}
-use Rattle.fractured_json_rules.specs.Verdict.{verdict, keysOf}
+use Rattle.fractured_json_rules.specs.Verdict.{verdict}
 use Rattle.fractured_json_rules.specs.KeyTable.{roomOf, keyOf, checkedBy, checked}
 use Rattle.fractured_json_rules.specs.Leads.{Leads, StandsFor}
 use Rattle.fractured_json_rules.specs.Questions.{Lender, theDocument, theList, KeyRead, lent, endOf, kind, numberAt, stringAt, stringBytes, elementAt, memberAt, firstMember, keyAt, keyBytes}
@@ -197,7 +197,7 @@ module _ (doc list words after : List ℕ) (r : Checked) (contract : toldChecked
       )
 
   pub check-keeps : (length after ≡ length words)
-      × ((j : ℕ) → j < r .count → keyOf after j ≡ getD (keysOf (verdict (roomOf words) doc list)) j noKey)
+      × ((j : ℕ) → j < r .count → keyOf after j ≡ getD (keptOf (verdict (roomOf words) doc list)) j noKey)
       × ((i : ℕ) → 2 * r .count ≤ i → getD after i 0 ≡ getD words i 0)
   check-keeps =
       let k = Rules.table-kept doc list words in (

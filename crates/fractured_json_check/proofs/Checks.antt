@@ -10,7 +10,7 @@ use Rattle.json.specs.Limits.{deepest}
 use Rattle.json.specs.Reading.{Outcome, halt, done, Asked, ask, answers, refuses, answer, follow, _>>=_, need, told}
 use Rattle.json.specs.declared.Refusal.{Refusal}
 use Rattle.json.specs.declared.Verdict.{Verdict}
-use Rattle.json.proofs.Reading.{then, stops, need-yes, need-no}
+use Rattle.json.proofs.Reading.{then, stops, need-yes, need-no, carry, carry-then, carry-need}
 use Rattle.json.proofs.Sizes.{word-holds}
 use Rattle.fractured_json_rules.specs.Meaning.{Keys}
 use Rattle.fractured_json_rules.specs.KeyList.{namesFrom, countIn, keyList}
@@ -18,7 +18,7 @@ use Rattle.fractured_json_rules.specs.Verdict.{header, inTurn, value, checkKey,
 use Rattle.fractured_json_rules.specs.KeyTable.{roomOf, stored, Checked, checkedBy, checked}
 use Rattle.fractured_json_values.specs.Opened.{entry}
 use Rattle.fractured_json_keys.proofs.Chained.{all-zero}
-use Rattle.fractured_json_values.proofs.Carried.{carry, carry-then, carry-need, carry-header}
+use Rattle.fractured_json_values.proofs.Carried.{carry-header}
 use Rattle.fractured_json_values.proofs.Headers.{unlike, header-opens}
 use Rattle.fractured_json_check.specs.Told.{toldChecked}
 use Rattle.fractured_json_check.specs.Table.{Table, table, keyIn, out, Walked, walkedBy, walked, toldWalk}

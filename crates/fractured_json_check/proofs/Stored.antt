@@ -5,11 +5,13 @@ use mathlib.Core.Bool.{Bool, true, false, not}
 use mathlib.Core.List.{List, [], _∷_, _++_}
 use Prim.Native.Nat.{ℕ, zero, suc, _+_, _*_, _/_, _≤_, _<_, min}
 use native.Mathlib.Omega.{arith}
-use lib.Dec.{T, ltb, leb, ltb→lt}
+use lib.Dec.{ltb, leb, ltb→lt}
 use lib.ListN.{length, getD, drop, length-append}
 use Rattle.json.specs.Bytes.{part}
 use Rattle.json.specs.Limits.{mostKeys, deepest}
-use Rattle.json.specs.Reading.{Outcome, halt, done, Reading, Asked, ask, answer, keep, follow, _>>=_, need}
+use Rattle.json.specs.Reading.{Outcome, halt, done, Reading, ask, answer, keep, follow, _>>=_, need}
+use Rattle.json.proofs.Alike.{sim-then, sim-carry, sim-test}
+use Rattle.json.proofs.Alike as Sides
 use Rattle.fractured_json_rules.specs.ByteTables.{KeyNumber, KeyForm, immediate, backReference, globalIndex, kReserved, keyFormOf}
 use Rattle.fractured_json_rules.specs.Meaning.{Key, Keys}
 use Rattle.fractured_json_rules.specs.KeyList.{met}
@@ -24,7 +26,7 @@ use Rattle.fractured_json_keys.proofs.Chained.{Linked, no-links, seen-met, link
 use Rattle.fractured_json_check.specs.Table.{Table, table, freshKeyIn, newKeyIn, oldKeyIn, keyIn, out, walkedBy, walked, toldWalk}
 use Rattle.fractured_json_check.specs.declared.walk.Walk.{Walk}
 use Rattle.fractured_json_check.specs.declared.walk.Walk.the-variants.{End, Refused}
-use Rattle.fractured_json_values.proofs.Carried.{carry, carry-byte, carry-key-number, carry-opened}
+use Rattle.fractured_json_values.proofs.Carried.{carry-byte, carry-key-number, carry-opened}
 use Rattle.fractured_json_values.proofs.Walks.{onOpened, value-opened}
 
 -- ---- the words that hold the pairs of some keys
@@ -80,44 +82,19 @@ module _ (words doc : List ℕ) (names : ℕ) where
     linked : Linked doc (t .words) (t .links) (t .count)
 
   abbrev Alike : {A : Type 0} → Outcome Keys A → Outcome Table A → Type 0
-  Alike (halt n p ks) (halt m q t) = (n ≡ m) × (p ≡ q) × Tied ks t
-  Alike (halt n p ks) (done b t) = ⊥
-  Alike (done a ks) (halt m q t) = ⊥
-  Alike (done a ks) (done b t) = (a ≡ b) × Tied ks t
+  Alike r q = Sides.Alike Tied Tied r q
 
   abbrev Sim : {A : Type 0} → Reading Keys A → Reading Table A → Type 0
-  Sim m n = (ks : Keys) (t : Table) → Tied ks t → Alike (m ks) (n t)
-
-  sim-follow : {A B : Type 0} (r : Outcome Keys A) (q : Outcome Table A) (f : A → Reading Keys B) (g : A → Reading Table B) → Alike r q → ((a : A) → Sim (f a) (g a)) → Alike (follow r f) (follow q g)
-  unfolding follow
-  sim-follow (halt n p ks) (halt m o t) f g h k = h
-  sim-follow (halt n p ks) (done b t) f g h k = absurd h
-  sim-follow (done a ks) (halt m o t) f g h k = absurd h
-  sim-follow (done a ks) (done b t) f g h k = rw (h .0) (k b ks t (h .1))
-
-  sim-then : {A B : Type 0} (m : Reading Keys A) (n : Reading Table A) (f : A → Reading Keys B) (g : A → Reading Table B) → Sim m n → ((a : A) → Sim (f a) (g a)) → Sim (m >>= f) (n >>= g)
-  unfolding _>>=_
-  sim-then m n f g h k ks t r = sim-follow (m ks) (n t) f g (h ks t r) k
-
-  sim-carry : {A : Type 0} (q : Asked A) (ks : Keys) (t : Table) → Tied ks t → Alike (carry ks q) (carry t q)
-  sim-carry (halt n p u) ks t r = (refl, refl, r)
-  sim-carry (done a u) ks t r = (refl, r)
+  Sim m n = Sides.Sim Tied Tied Tied m n
 
   alike-by : {A : Type 0} {r x : Outcome Keys A} {q y : Outcome Table A} → r ≡ x → q ≡ y → Alike x y → Alike r q
   alike-by e f h = rw (e, f) h
 
-  -- a test that is the same on both sides, and what is known after it
-  sim-test : {B : Type 0} (b c : Bool) (n p : ℕ) (f : Unit {0} → Reading Keys B) (g : Unit {0} → Reading Table B) (ks : Keys) (t : Table) → b ≡ c → Tied ks t
-      → (T b → Alike (f tt ks) (g tt t)) → Alike ((need b n p >>= f) ks) ((need c n p >>= g) t)
-  unfolding _>>=_ follow need
-  sim-test true c n p f g ks t e r k = rw (← e) (k tt)
-  sim-test false c n p f g ks t e r k = rw (← e) (refl, refl, r)
-
   sim-byte : (o p : ℕ) → Sim (byteAt doc o p) (byteAt doc o p)
-  sim-byte o p ks t r = rw (carry-byte doc o p ks, carry-byte doc o p t) (sim-carry (ask (byteAt doc o p)) ks t r)
+  sim-byte o p ks t r = rw (carry-byte doc o p ks, carry-byte doc o p t) (sim-carry Tied Tied (ask (byteAt doc o p)) ks t r r)
 
   sim-key-number : (o : ℕ) (x : KeyNumber) → Sim (keyNumberAt doc o x) (keyNumberAt doc o x)
-  sim-key-number o x ks t r = rw (carry-key-number doc o x ks, carry-key-number doc o x t) (sim-carry (ask (keyNumberAt doc o x)) ks t r)
+  sim-key-number o x ks t r = rw (carry-key-number doc o x ks, carry-key-number doc o x t) (sim-carry Tied Tied (ask (keyNumberAt doc o x)) ks t r r)
 
   sim-end : {B : Type 0} (b : Bool) (n p e : ℕ) (f : ℕ → Reading Keys B) (g : ℕ → Reading Table B) → Sim (f e) (g e) → Sim ((need b n p >>= λ _. answer e) >>= f) ((need b n p >>= λ _. answer e) >>= g)
   unfolding _>>=_ follow need
@@ -129,7 +106,7 @@ module _ (words doc : List ℕ) (names : ℕ) where
   sim-text o n f g h = sim-end (leb (n .past + n .is) (length doc)) 35 o (n .past + n .is) f g h
 
   sim-opened : (o : ℕ) → Sim (openedAt doc o) (openedAt doc o)
-  sim-opened o ks t r = rw (carry-opened doc o ks, carry-opened doc o t) (sim-carry (ask (openedAt doc o)) ks t r)
+  sim-opened o ks t r = rw (carry-opened doc o ks, carry-opened doc o t) (sim-carry Tied Tied (ask (openedAt doc o)) ks t r r)
 
   -- ---- keys
 
@@ -177,7 +154,7 @@ module _ (words doc : List ℕ) (names : ℕ) where
   unfolding freshKeyIn
   sim-fresh o n ks t r =
       let e : ltb (length ks) (roomOf words) ≡ ltb (t .count) (roomOf (t .words)) = rw (r .counts, same-room ks t r) in
-      rw (kept-is _ t) (sim-test _ _ _ _ _ _ ks t e r (λ y. rw (keep-is _ _ ks, keep-is _ _ t) (refl, one-key-more ks t n r (ltb→lt _ _ y))))
+      rw (kept-is _ t) (sim-test Tied Tied _ _ _ _ _ _ ks t e r (λ y. rw (keep-is _ _ ks, keep-is _ _ t) (refl, one-key-more ks t n r (ltb→lt _ _ y))))
 
   same-test : (x : List ℕ) (ks : Keys) (t : Table) → Tied ks t → met doc x ks ≡ seenIn doc x (t .words) (t .links) (t .count)
   same-test x ks t r = sym (seen-met doc x (t .words) (t .links) (t .count) (r .linked) (half ks t r) ∙ ap (met doc x) (same-keys ks t r))
@@ -187,40 +164,40 @@ module _ (words doc : List ℕ) (names : ℕ) where
   sim-new o n =
       sim-text o n _ _ λ ks t r.
       let e : not (met doc (part doc (n .past) (n .is)) ks) ≡ not (seenIn doc (part doc (n .past) (n .is)) (t .words) (t .links) (t .count)) = ap not (same-test (part doc (n .past) (n .is)) ks t r) in
-      rw (kept-is _ ks, kept-is _ t) (sim-test _ _ _ _ _ _ ks t e r (λ z. sim-fresh o n ks t r))
+      rw (kept-is _ ks, kept-is _ t) (sim-test Tied Tied _ _ _ _ _ _ ks t e r (λ z. sim-fresh o n ks t r))
 
   sim-old : (o : ℕ) (n : Numeral) → Sim (oldKey o n) (oldKeyIn o n)
   unfolding oldKey oldKeyIn
   sim-old o n ks t r =
       let e : ltb (n .is) (length ks) ≡ ltb (n .is) (t .count) = rw (r .counts) in
-      rw (kept-is _ ks, kept-is _ t) (sim-test _ _ _ _ _ _ ks t e r (λ y. (refl, r)))
+      rw (kept-is _ ks, kept-is _ t) (sim-test Tied Tied _ _ _ _ _ _ ks t e r (λ y. (refl, r)))
 
   sim-listed : (o : ℕ) (n : Numeral) → Sim (listedKey names o n) (listedKey names o n)
   unfolding listedKey
-  sim-listed o n ks t r = sim-test _ _ _ _ _ _ ks t refl r (λ y. (refl, r))
+  sim-listed o n ks t r = sim-test Tied Tied _ _ _ _ _ _ ks t refl r (λ y. (refl, r))
 
   sim-by : (o : ℕ) (f : KeyForm)
       → Sim (keyBy doc o (newKey (roomOf words) doc o) (oldKey o) (listedKey names o) f) (keyBy doc o (newKeyIn doc o) (oldKeyIn o) (listedKey names o) f)
   unfolding keyBy
-  sim-by o (immediate x) = sim-then _ _ _ _ (sim-key-number o x) (λ n. sim-new o n)
-  sim-by o (backReference x) = sim-then _ _ _ _ (sim-key-number o x) (λ n. sim-old o n)
-  sim-by o (globalIndex x) = sim-then _ _ _ _ (sim-key-number o x) (λ n. sim-listed o n)
+  sim-by o (immediate x) = sim-then Tied Tied Tied Tied _ _ _ _ (sim-key-number o x) (λ n. sim-new o n)
+  sim-by o (backReference x) = sim-then Tied Tied Tied Tied _ _ _ _ (sim-key-number o x) (λ n. sim-old o n)
+  sim-by o (globalIndex x) = sim-then Tied Tied Tied Tied _ _ _ _ (sim-key-number o x) (λ n. sim-listed o n)
   sim-by o kReserved = λ ks t r. (refl, refl, r)
 
   sim-key : (o : ℕ) → Sim (checkKey (roomOf words) doc names o) (keyIn doc names o)
   unfolding checkKey keyIn
-  sim-key o = sim-then _ _ _ _ (sim-byte o o) (λ b. sim-by o (keyFormOf b))
+  sim-key o = sim-then Tied Tied Tied Tied _ _ _ _ (sim-byte o o) (λ b. sim-by o (keyFormOf b))
 
   -- ---- the walk
 
   sim-turns : (f : ℕ → Reading Keys ℕ) (g : ℕ → Reading Table ℕ) → ((o : ℕ) → Sim (f o) (g o)) → (n o : ℕ) → Sim (inTurn f n o) (inTurn g n o)
   unfolding inTurn
   sim-turns f g h zero o = λ ks t r. (refl, r)
-  sim-turns f g h (suc n) o = sim-then _ _ _ _ (h o) (λ next. sim-turns f g h n next)
+  sim-turns f g h (suc n) o = sim-then Tied Tied Tied Tied _ _ _ _ (h o) (λ next. sim-turns f g h n next)
 
   sim-member : (f : ℕ → Reading Keys ℕ) (g : ℕ → Reading Table ℕ) → ((o : ℕ) → Sim (f o) (g o)) → (o : ℕ) → Sim (member (checkKey (roomOf words) doc names) f o) (member (keyIn doc names) g o)
   unfolding member
-  sim-member f g h o = sim-then _ _ _ _ (sim-key o) (λ v. h v)
+  sim-member f g h o = sim-then Tied Tied Tied Tied _ _ _ _ (sim-key o) (λ v. h v)
 
   sim-on : (array object : Numeral → Reading Keys ℕ) (array' object' : Numeral → Reading Table ℕ) → ((n : Numeral) → Sim (array n) (array' n)) → ((n : Numeral) → Sim (object n) (object' n))
       → (x : Opened) → Sim (onOpened array object x) (onOpened array' object' x)
@@ -232,10 +209,10 @@ module _ (words doc : List ℕ) (names : ℕ) where
   unfolding value
   sim-value zero o ks t r =
       alike-by (value-opened doc o _ _ ks) (value-opened doc o _ _ t)
-      (sim-then _ _ _ _ (sim-opened o) (sim-on _ _ _ _ (λ n ks t r. (refl, refl, r)) (λ n ks t r. (refl, refl, r))) ks t r)
+      (sim-then Tied Tied Tied Tied _ _ _ _ (sim-opened o) (sim-on _ _ _ _ (λ n ks t r. (refl, refl, r)) (λ n ks t r. (refl, refl, r))) ks t r)
   sim-value (suc l) o ks t r =
       alike-by (value-opened doc o _ _ ks) (value-opened doc o _ _ t)
-      (sim-then _ _ _ _ (sim-opened o) (sim-on _ _ _ _ (λ n. sim-turns _ _ (sim-value l) (n .is) (n .past)) (λ n. sim-turns _ _ (sim-member _ _ (sim-value l)) (n .is) (n .past))) ks t r)
+      (sim-then Tied Tied Tied Tied _ _ _ _ (sim-opened o) (sim-on _ _ _ _ (λ n. sim-turns _ _ (sim-value l) (n .is) (n .past)) (λ n. sim-turns _ _ (sim-member _ _ (sim-value l)) (n .is) (n .past))) ks t r)
 
   same-walk : (r : Outcome Keys ℕ) (w : Walk) (after links : List ℕ) → Alike r (out w after links) → toldWalk w after ≡ walkedBy words r
   same-walk (halt n p ks) (Refused c q) after links h = rw (h .0, h .1, h .2 .counts, h .2 .holds)

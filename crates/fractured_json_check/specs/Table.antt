@@ -7,10 +7,10 @@ use lib.Dec.{ltb}
 use lib.ListN.{length}
 use Rattle.json.specs.Bytes.{part}
 use Rattle.json.specs.Limits.{deepest}
-use Rattle.json.specs.Reading.{Outcome, halt, done, Reading, Asked, answers, refuses, answer, kept, keep, _>>=_, _>>_, need}
+use Rattle.json.specs.Reading.{Outcome, halt, done, Reading, Asked, answers, refuses, answer, kept, keep, _>>=_, _>>_, need, keptOf, verdictOf}
 use Rattle.fractured_json_rules.specs.ByteTables.{keyFormOf}
 use Rattle.fractured_json_rules.specs.Meaning.{Keys}
-use Rattle.fractured_json_rules.specs.Verdict.{byteAt, textAt, Numeral, value, keyBy, listedKey, checkKey, keysOf, verdictOf}
+use Rattle.fractured_json_rules.specs.Verdict.{byteAt, textAt, Numeral, value, keyBy, listedKey, checkKey}
 use Rattle.fractured_json_rules.specs.KeyTable.{roomOf, stored}
 use Rattle.fractured_json_keys.specs.Passed.{withPair}
 use Rattle.fractured_json_keys.specs.Chains.{bucketsIn, bucketOf, seenIn, linkedIn}
@@ -73,7 +73,7 @@ pub record Walked : Type 0 where
   pub words : List ℕ
 
 abbrev pub walkedBy : List ℕ → Outcome Keys ℕ → Walked
-walkedBy words q = record { end = verdictOf q; count = length (keysOf q); words = stored (keysOf q) words }
+walkedBy words q = record { end = verdictOf q; count = length (keptOf q); words = stored (keptOf q) words }
 
 -- by the rules
 abbrev pub walked : List ℕ → ℕ → List ℕ → Walked

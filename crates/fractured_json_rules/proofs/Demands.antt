@@ -9,13 +9,13 @@ use lib.Dec.{eqb-refl, leb→le, lt→ltb, ltb→lt}
 use lib.ListN.{length, getD}
 use Rattle.json.specs.Bytes.{Bytes, number, part}
 use Rattle.json.specs.Limits.{deepest, mostKeys}
-use Rattle.json.specs.Reading.{Outcome, halt, done, Reading, Asked, ask, answers, refuses, _>>_}
+use Rattle.json.specs.Reading.{Outcome, halt, done, Reading, Asked, ask, answers, refuses, _>>_, keptOf}
 use Rattle.json.specs.Tree.{Tree, num, str, arr, obj, Trees, Members, size, sizem, depth, ElementIs, MemberIs, Lacks, NoNumber, NoString, NoArray, NoObject, Subtree}
 use Rattle.json.proofs.Reading.{halt≢done, done-answer, past, step, passed, then, stops, pass, fail, need-yes}
 use Rattle.json.proofs.Tree.{element-at, member-at, element-below, member-below, subtree-depth}
 use Rattle.fractured_json_rules.specs.ByteTables.{KeyForm, immediate, backReference, globalIndex, kReserved}
 use Rattle.fractured_json_rules.specs.Meaning.{Names, Lists, noKey, Keys, afterLength, Means}
-use Rattle.fractured_json_rules.specs.Verdict.{Numeral, numeral, keyBy, listedKey, checkKey, document, check, verdict, keysOf}
+use Rattle.fractured_json_rules.specs.Verdict.{Numeral, numeral, keyBy, listedKey, checkKey, document, check, verdict}
 use Rattle.fractured_json_rules.specs.KeyList.{countIn, keyList, noNames, nameOf}
 use Rattle.fractured_json_rules.specs.KeyTable.{roomOf, keyOf, checked}
 use Rattle.fractured_json_rules.specs.TreeOf.{treeOf, lengthIn, keyEnd}
@@ -51,8 +51,8 @@ accepted-keys room doc list t m r =
 accepted-means : (room : ℕ) (doc list : List ℕ) (ks : Keys) → verdict room doc list ≡ done tt ks → (t : Tree) × (m : Means doc list t) × (length (m .keys) ≤ room)
 accepted-means room doc list ks e =
     let (t, m, same) = sound room doc list ks e in
-    let fits : length (keysOf (verdict room doc list)) ≤ room = passed-room room doc list in
-    (t, m, rw same (subst (λ (r : Outcome Keys (Unit {0})). length (keysOf r) ≤ room) e fits))
+    let fits : length (keptOf (verdict room doc list)) ≤ room = passed-room room doc list in
+    (t, m, rw same (subst (λ (r : Outcome Keys (Unit {0})). length (keptOf r) ≤ room) e fits))
 
 pub accepted-exactly : (room : ℕ) (doc list : List ℕ) → ((ks : Keys) × (verdict room doc list ≡ done tt ks)) ↔ ((t : Tree) × (m : Means doc list t) × (length (m .keys) ≤ room))
 accepted-exactly room doc list = (λ a. accepted-means room doc list (a .0) (a .1), λ b. (b .1 .keys, accepted-keys room doc list (b .0) (b .1) (b .2)))
@@ -172,12 +172,12 @@ no-name-found o n ks = (index-not-found 0 o n ks (omega arith), name-not-found n
 pub record TableKept (doc list words : List ℕ) : Type 0 where
   pub bounded : checked doc list words .count ≤ roomOf words
   pub as-long : length (checked doc list words .words) ≡ length words
-  pub each-pair : (j : ℕ) → j < checked doc list words .count → keyOf (checked doc list words .words) j ≡ getD (keysOf (verdict (roomOf words) doc list)) j noKey
+  pub each-pair : (j : ℕ) → j < checked doc list words .count → keyOf (checked doc list words .words) j ≡ getD (keptOf (verdict (roomOf words) doc list)) j noKey
   pub all-others : (i : ℕ) → 2 * checked doc list words .count ≤ i → getD (checked doc list words .words) i 0 ≡ getD words i 0
 
 pub table-kept : (doc list words : List ℕ) → TableKept doc list words
 table-kept doc list words =
-    let ks = keysOf (verdict (roomOf words) doc list) in
+    let ks = keptOf (verdict (roomOf words) doc list) in
     let fits = passed-room (roomOf words) doc list in
     let room = room-words words (length ks) fits in
     record {

@@ -9,12 +9,12 @@ use lib.Dec.{T, ltb, ltb→lt}
 use lib.ListN.{length, getD, drop, length-append, length-drop}
 use lib.Seq.{getD-append-add, getD-drop}
 use Rattle.json.specs.Limits.{deepest}
-use Rattle.json.specs.Reading.{Outcome, halt, done, Reading, follow, _>>=_, need}
+use Rattle.json.specs.Reading.{Outcome, halt, done, Reading, follow, _>>=_, need, keptOf}
 use Rattle.fractured_json_rules.specs.ByteTables.{Len, tiny, after, Form, fNull, fBool, fInt, fFloat, fTiny, fString, fObject, fArray, fReserved, formOf}
 use Rattle.fractured_json_rules.specs.ByteTables.{KeyNumber, inByte, spelled, KeyForm, immediate, backReference, globalIndex, kReserved, keyFormOf}
 use Rattle.fractured_json_rules.specs.Meaning.{noKey, Keys}
 use Rattle.fractured_json_rules.specs.Verdict.{header, byteAt, payload, lengthAt, textAt, Numeral, afterSecond, afterFirst, keyNumberAt, inTurn, member, valueBy}
-use Rattle.fractured_json_rules.specs.Verdict.{value, keyBy, newKey, oldKey, listedKey, checkKey, document, check, verdict, keysOf}
+use Rattle.fractured_json_rules.specs.Verdict.{value, keyBy, newKey, oldKey, listedKey, checkKey, document, check, verdict}
 use Rattle.fractured_json_rules.specs.KeyList.{namesFrom, countIn, keyList}
 use Rattle.fractured_json_rules.specs.KeyTable.{roomOf, pairs, stored, keyOf}
 use Rattle.fractured_json_rules.proofs.Readers.{kept-is, keep-is}
@@ -22,9 +22,9 @@ use Rattle.fractured_json_rules.proofs.Readers.{kept-is, keep-is}
 module _ (room : ℕ) where
   -- a reading that passes no more keys than there is room for
   abbrev Keeps : {A : Type 0} → Reading Keys A → Type 0
-  Keeps m = (ks : Keys) → length ks ≤ room → length (keysOf (m ks)) ≤ room
+  Keeps m = (ks : Keys) → length ks ≤ room → length (keptOf (m ks)) ≤ room
 
-  follows : {A B : Type 0} (r : Outcome Keys A) (f : A → Reading Keys B) → length (keysOf r) ≤ room → ((a : A) → Keeps (f a)) → length (keysOf (follow r f)) ≤ room
+  follows : {A B : Type 0} (r : Outcome Keys A) (f : A → Reading Keys B) → length (keptOf r) ≤ room → ((a : A) → Keeps (f a)) → length (keptOf (follow r f)) ≤ room
   unfolding follow
   follows (halt n p ks) f h k = h
   follows (done a ks) f h k = k a ks h
@@ -39,8 +39,8 @@ module _ (room : ℕ) where
   keeps-need false n p ks h = h
 
   -- a test, and what is known after it
-  keeps-test : {B : Type 0} (t : Bool) (n p : ℕ) (f : Unit {0} → Reading Keys B) (ks : Keys) → length ks ≤ room → (T t → length (keysOf (f tt ks)) ≤ room)
-      → length (keysOf ((need t n p >>= f) ks)) ≤ room
+  keeps-test : {B : Type 0} (t : Bool) (n p : ℕ) (f : Unit {0} → Reading Keys B) (ks : Keys) → length ks ≤ room → (T t → length (keptOf (f tt ks)) ≤ room)
+      → length (keptOf ((need t n p >>= f) ks)) ≤ room
   unfolding _>>=_ follow need
   keeps-test true n p f ks h k = k tt
   keeps-test false n p f ks h k = h
@@ -155,7 +155,7 @@ module _ (room : ℕ) where
     keeps-check list = keeps-then _ _ (keeps-list list) λ _. keeps-then _ _ keeps-header λ _. keeps-then _ _ (keeps-value (countIn list) deepest 3) λ past. keeps-need _ _ _
 
 -- the keys passed are at most the room, refused or not
-pub passed-room : (room : ℕ) (doc list : List ℕ) → length (keysOf (verdict room doc list)) ≤ room
+pub passed-room : (room : ℕ) (doc list : List ℕ) → length (keptOf (verdict room doc list)) ≤ room
 passed-room room doc list = keeps-check room doc list [] (omega arith)
 
 -- ---- the words afterwards

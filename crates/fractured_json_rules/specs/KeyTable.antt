@@ -5,9 +5,9 @@ use Prim.Native.Nat.{ℕ, _+_, _*_, _/_, min}
 use mathlib.Core.List.{List, [], _∷_, _++_}
 use lib.ListN.{length, getD, drop}
 use Rattle.json.specs.Limits.{mostKeys}
-use Rattle.json.specs.Reading.{Outcome, Asked}
+use Rattle.json.specs.Reading.{Outcome, Asked, keptOf, verdictOf}
 use Rattle.fractured_json_rules.specs.Meaning.{Key, Keys}
-use Rattle.fractured_json_rules.specs.Verdict.{verdict, keysOf, verdictOf}
+use Rattle.fractured_json_rules.specs.Verdict.{verdict}
 
 -- the room of a table: half its words rounded down, at most 4,096
 unfoldable pub roomOf : List ℕ → ℕ
@@ -33,7 +33,7 @@ pub record Checked : Type 0 where
   pub words : List ℕ
 
 abbrev pub checkedBy : List ℕ → Outcome Keys (Unit {0}) → Checked
-checkedBy words q = record { verdict = verdictOf q; count = length (keysOf q); words = stored (keysOf q) words }
+checkedBy words q = record { verdict = verdictOf q; count = length (keptOf q); words = stored (keptOf q) words }
 
 abbrev pub checked : List ℕ → List ℕ → List ℕ → Checked
 checked doc list words = checkedBy words (verdict (roomOf words) doc list)

@@ -5,6 +5,7 @@ use mathlib.Core.List.{List, []}
 use lib.Dec.{ltb}
 use lib.ListN.{getD}
 use Rattle.json.specs.Bytes.{number, part}
+use Rattle.json.specs.Reading.{keptOf}
 use Rattle.json.specs.Choose.{choose}
 use Rattle.json.specs.Limits.{deepest}
 use Rattle.json.specs.Number.{floatTree}
@@ -12,7 +13,7 @@ use Rattle.json.specs.Tree.{Tree, null, bool, str, arr, obj, Trees, none, more,
 use Rattle.fractured_json_rules.specs.ByteTables.{bytes, Len, tiny, after, Form, fNull, fBool, fInt, fFloat, fTiny, fString, fObject, fArray, fReserved, formOf, KeyNumber, inByte, spelled, KeyForm, immediate, backReference, globalIndex, kReserved, keyFormOf}
 use Rattle.fractured_json_rules.specs.Meaning.{noKey, Keys, keyText, afterLength, intTree, tinyTree}
 use Rattle.fractured_json_rules.specs.KeyList.{steps, nameOf}
-use Rattle.fractured_json_rules.specs.Verdict.{Numeral, numeral, verdict, keysOf}
+use Rattle.fractured_json_rules.specs.Verdict.{Numeral, numeral, verdict}
 
 -- ---- ends
 
@@ -95,4 +96,4 @@ treeAt (suc levels) doc list ks o = treeBy doc list ks (treeAt levels doc list k
 
 -- the tree of a document and a key list whose check has room for so many keys
 unfoldable pub treeOf : ℕ → List ℕ → List ℕ → Tree
-treeOf room doc list = treeAt deepest doc list (keysOf (verdict room doc list)) 3
+treeOf room doc list = treeAt deepest doc list (keptOf (verdict room doc list)) 3

@@ -12,7 +12,7 @@ use lib.ListN.{length, getD}
 use Rattle.json.specs.Bytes.{number, part}
 use Rattle.json.specs.Limits.{leastFractured, longest, deepest}
 use Rattle.json.specs.Number.{finite}
-use Rattle.json.specs.Reading.{Outcome, halt, done, Reading, answer, refuse, kept, keep, _>>=_, _>>_, need, Asked, answers, refuses}
+use Rattle.json.specs.Reading.{Outcome, Reading, answer, refuse, kept, keep, _>>=_, _>>_, need}
 use Rattle.fractured_json_rules.specs.ByteTables.{bytes, Len, tiny, after, Form, fNull, fBool, fInt, fFloat, fTiny, fString, fObject, fArray, fReserved, formOf, KeyNumber, inByte, spelled, KeyForm, immediate, backReference, globalIndex, kReserved, keyFormOf}
 use Rattle.fractured_json_rules.specs.Meaning.{Keys}
 use Rattle.fractured_json_rules.specs.KeyList.{met, countIn, keyList}
@@ -182,12 +182,3 @@ check room doc list = do
 -- the verdict, with the immediate keys passed before the end or the refusal
 abbrev pub verdict : ℕ → List ℕ → List ℕ → Outcome Keys (Unit {0})
 verdict room doc list = check room doc list []
-
--- the keys passed, and the verdict without them, however the reading ends
-abbrev pub keysOf : {A : Type 0} → Outcome Keys A → Keys
-keysOf (halt number place ks) = ks
-keysOf (done a ks) = ks
-
-abbrev pub verdictOf : {A : Type 0} → Outcome Keys A → Asked A
-verdictOf (halt number place ks) = refuses number place
-verdictOf (done a ks) = answers a

@@ -1,38 +1,19 @@
 -- A reading that neither looks at what is kept nor changes it says the same whatever is kept.
-use mathlib.Core.Path.{_≡_, refl, ap, _∙_}
+use mathlib.Core.Path.{_≡_, refl, _∙_}
 use mathlib.Core.Bool.{Bool, true, false}
 use mathlib.Core.List.{List}
 use Prim.Native.Nat.{ℕ}
 use lib.Dec.{ltb, eqb}
 use Rattle.json.specs.Choose.{choose}
-use Rattle.json.specs.Reading.{Outcome, halt, done, Reading, Asked, ask, answers, refuses, follow, _>>=_, need}
+use Rattle.json.specs.Reading.{halt, done, Reading, ask, answers, refuses}
+use Rattle.json.proofs.Reading.{carry, carry-then, carry-need}
 use Rattle.fractured_json_rules.specs.ByteTables.{KeyNumber, inByte, spelled, formOf}
 use Rattle.fractured_json_rules.specs.Verdict.{byteAt, payload, Numeral, afterSecond, afterFirst, keyNumberAt, header}
 use Rattle.fractured_json_values.specs.Heads.{headOf}
 use Rattle.fractured_json_values.specs.Opened.{sizedAt, Opened, openKind, openHead, openedAt}
 use Rattle.fractured_json_values.specs.declared.types.Head.{Head}
 
-abbrev pub carry : {S A : Type 0} → S → Asked A → Outcome S A
-carry s (halt n p u) = halt n p s
-carry s (done a u) = done a s
-
 module _ {S : Type 0} where
-  follows : {A B : Type 0} (q : Asked A) (f : A → Reading S B) (g : A → Reading (Unit {0}) B) (s : S) → ((a : A) → f a s ≡ carry s (g a tt))
-      → follow (carry s q) f ≡ carry s (follow q g)
-  unfolding follow
-  follows (halt n p u) f g s h = refl
-  follows (done a u) f g s h = h a
-
-  pub carry-then : {A B : Type 0} (m : Reading S A) (n : Reading (Unit {0}) A) (f : A → Reading S B) (g : A → Reading (Unit {0}) B) (s : S)
-      → m s ≡ carry s (n tt) → ((a : A) → f a s ≡ carry s (g a tt)) → (m >>= f) s ≡ carry s ((n >>= g) tt)
-  unfolding _>>=_
-  carry-then m n f g s h k = ap (λ o. follow o f) h ∙ follows (n tt) f g s k
-
-  pub carry-need : (t : Bool) (n p : ℕ) (s : S) → need t n p s ≡ carry s (need t n p tt)
-  unfolding need
-  carry-need true n p s = refl
-  carry-need false n p s = refl
-
   module _ (doc : List ℕ) where
     pub carry-byte : (o p : ℕ) (s : S) → byteAt doc o p s ≡ carry s (ask (byteAt doc o p))
     unfolding byteAt

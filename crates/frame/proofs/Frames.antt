@@ -8,16 +8,18 @@ use native.Mathlib.Omega.{arith}
 use borrow.Author.Needs.{needs}
 use borrow.Author.Tests.{lt-ltb, le-ltb, ne-eqb}
 use lib.Dec.{eqb}
-use lib.ListN.{length, getD, take, List·getD-eq-default}
+use lib.ListN.{length, getD, take, replicate, List·getD-eq-default}
 use lib.Seq.{length-take-le}
 use Rattle.json.specs.Choose.{choose}
-use Rattle.json.specs.Limits.{longestLine, benchKeys}
-use Rattle.json.specs.Reading.{told}
+use Rattle.json.specs.Limits.{longestLine, benchMarks, benchKeys}
+use Rattle.json.specs.Reading.{told, verdictOf}
 use Rattle.json.specs.declared.Verdict.{Verdict}
 use Rattle.binary_json_rules.specs.Verdict as Binary
 use Rattle.fractured_json_rules.specs.KeyList.{noNames}
 use Rattle.fractured_json_rules.specs.Verdict as Fractured
 use Rattle.fractured_json_rules.specs.KeyTable.{roomOf, checked}
+use Rattle.binary_json_check.specs.Told.{toldMarks}
+use Rattle.binary_json_check.proofs.Told.{verdict-told}
 use Rattle.fractured_json_check.specs.Told.{toldChecked}
 use Rattle.fractured_json_check.specs.declared.answers.Checked.{Checked}
 use Rattle.frame.specs.Decoded.{Decoded}
@@ -53,15 +55,19 @@ unfolding roomOf
 room-is words l = rw (sym l)
 
 pub with-room : (doc words after : List ℕ) (c : Checked) → toldChecked c after ≡ checked doc noNames words → 2 * benchKeys ≡ length words
-    → told (c .verdict) ≡ Fractured.verdictOf (Fractured.verdict benchKeys doc noNames)
+    → told (c .verdict) ≡ verdictOf (Fractured.verdict benchKeys doc noNames)
 with-room doc words after c e l = ap (λ k. k .verdict) e ∙ rw (room-is words l)
 
+pub with-marks : (doc marks after : List ℕ) (v : Verdict) → toldMarks v after ≡ Binary.verdict doc marks → marks ≡ replicate benchMarks 0
+    → told v ≡ verdictOf (Binary.verdict doc (replicate benchMarks 0))
+with-marks doc marks after v e l = verdict-told v after ∙ (ap verdictOf e ∙ rw l)
+
 module _ (doc : List ℕ) (b : Bool) (f : b ≡ isFractured doc) (v : Verdict) where
-  pub as-fractured : b ≡ true → told v ≡ Fractured.verdictOf (Fractured.verdict benchKeys doc noNames) → Frame.fractured (told v) ≡ frameOf doc
+  pub as-fractured : b ≡ true → told v ≡ verdictOf (Fractured.verdict benchKeys doc noNames) → Frame.fractured (told v) ≡ frameOf doc
   unfolding frameOf choose
   as-fractured t e = rw (sym f, t, e)
 
-  pub as-binary : b ≡ false → told v ≡ Binary.verdict doc → Frame.binary (told v) ≡ frameOf doc
+  pub as-binary : b ≡ false → told v ≡ verdictOf (Binary.verdict doc (replicate benchMarks 0)) → Frame.binary (told v) ≡ frameOf doc
   unfolding frameOf choose
   as-binary t e = rw (sym f, t, e)
 
@@ -87,4 +93,4 @@ counted n xs h = sym (length-take-le n xs h)
 
 pub ruleset part-laws = (counted, needs)
 
-pub ruleset frame-laws = (with-room, counted, as-fractured, as-binary, too-long, not-hex, answered, needs)
+pub ruleset frame-laws = (with-room, with-marks, counted, as-fractured, as-binary, too-long, not-hex, answered, needs)

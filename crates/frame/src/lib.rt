@@ -4,16 +4,18 @@ mod texts;
 
 use json::Verdict;
 use json::limits::BENCH_KEYS;
+use json::limits::BENCH_MARKS;
 use json::limits::LONGEST_LINE;
 pub use texts::text;
 pub use texts::total;
 ghost use mathlib.Core.Path.{_≡_};
-ghost use Rattle.json.specs.Limits.{benchKeys};
-ghost use Rattle.json.specs.Reading.{told};
+ghost use Rattle.json.specs.Limits.{benchMarks, benchKeys};
+ghost use Rattle.json.specs.Reading.{told, verdictOf};
 ghost use Prim.Native.Nat.{_*_};
-ghost use lib.ListN.{length};
+ghost use lib.ListN.{length, replicate};
 ghost use Rattle.fractured_json_rules.specs.KeyList.{noNames};
-ghost use Rattle.fractured_json_rules.specs.Verdict.{verdict, verdictOf};
+ghost use Rattle.binary_json_rules.specs.Verdict.{verdict as binaryVerdict};
+ghost use Rattle.fractured_json_rules.specs.Verdict.{verdict};
 ghost use Rattle.frame_rules.specs.Frame.{isFractured, frameOf, answerOf};
 ghost use Rattle.frame.specs.Told.{toldAnswer};
 
@@ -59,13 +61,27 @@ fn check_fractured(doc: &[u8]) -> Verdict
     c.verdict
 }
 
+// A mark for each word that the tree of a frame can have.
+fn marks() -> [u8; BENCH_MARKS]
+    ensures { λ r. ⌜ r ≡ replicate benchMarks 0 ⌝ }
+{
+    [0; BENCH_MARKS]
+}
+
+fn check_binary(doc: &[u8]) -> Verdict
+    ensures { λ r. ⌜ told r ≡ verdictOf (binaryVerdict (now (doc .entry)) (replicate benchMarks 0)) ⌝ }
+{
+    let mut lent = marks();
+    binary_json_check::check(doc, &mut lent)
+}
+
 fn check_frame(doc: &[u8]) -> Answer
     ensures { λ r. ⌜ toldAnswer r ≡ frameOf (now (doc .entry)) ⌝ }
 {
     if is_fractured(doc) {
         return Answer::Fractured(check_fractured(doc));
     }
-    Answer::Binary(binary_json_check::check(doc))
+    Answer::Binary(check_binary(doc))
 }
 
 // The answer of a line, without its LF.

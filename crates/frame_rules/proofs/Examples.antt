@@ -1,12 +1,17 @@
 -- The bench's output by the definitions: document 01's worked example, and what the rulings say of lines.
-use mathlib.Core.List.{[], _∷_, map}
+use Prim.Native.Nat.{ℕ, _+_, _*_, _≤_}
+use mathlib.Core.List.{List, [], _∷_, map}
 use mathlib.Core.Path.{_≡_, refl}
+use native.Mathlib.Omega.{arith}
+use lib.ListN.{length}
 use Rattle.json.specs.Bytes.{number}
 use Rattle.json.specs.Choose.{choose}
+use Rattle.json.specs.Limits.{longestLine, benchMarks}
 use Rattle.json.specs.Number.{finite}
 use Rattle.json.specs.Reading.{follow, _>>=_, need}
 use Rattle.json.specs.Texts.{byNumbers, compareTexts}
 use Rattle.binary_json_rules.specs.Areas as B
+use Rattle.binary_json_rules.specs.Marks as BM
 use Rattle.binary_json_rules.specs.Verdict as BV
 use Rattle.fractured_json_rules.specs.ByteTables as F
 use Rattle.fractured_json_rules.specs.KeyList as FL
@@ -27,5 +32,10 @@ pub bench-says :
     ∷ "frames\n1 hex\n2 F ok\ntotal 2 ok 1\n"
     ∷ "frames\n1 B no 1 1\n2 F no 31 2\n3 F no 31 3\n4 B no 1 2\ntotal 4 ok 0\n"
     ∷ [])
-unfolding follow _>>=_ need choose number finite byNumbers compareTexts B.index B.count B.slot B.text B.content B.numbers B.kindOf B.typeOf BV.header BV.ascends BV.slotRules BV.slots BV.slotNamed BV.numberNamed BV.keyEntries BV.entryBy BV.entry BV.entries BV.containerBy BV.container BV.scalar BV.rootBy BV.check F.formOf F.keyFormOf FV.header FV.byteAt FV.payload FV.lengthAt FV.textAt FV.afterSecond FV.afterFirst FV.keyNumberAt FV.inTurn FV.member FV.valueBy FV.value FV.keyBy FL.met FL.namesFrom FL.keyList FV.newKey FV.oldKey FV.listedKey FV.checkKey FV.document FV.check nibble bytesOf isFractured frameOf answerOf digits decimal verdictText said answerText totalText linesFrom answersFrom benchText
+unfolding follow _>>=_ need choose number finite byNumbers compareTexts B.index B.count B.slot B.text B.content B.numbers B.kindOf B.typeOf BV.header BV.ascends BV.slotRules BV.slots BV.slotNamed BV.numberNamed BV.keyEntries BV.entryBy BV.entry BV.entries BV.markBody BV.containerBy BV.container BV.scalar BV.rootBy BV.lent BV.allMarked BV.check BM.words BM.clear BM.fill BM.unmarked F.formOf F.keyFormOf FV.header FV.byteAt FV.payload FV.lengthAt FV.textAt FV.afterSecond FV.afterFirst FV.keyNumberAt FV.inTurn FV.member FV.valueBy FV.value FV.keyBy FL.met FL.namesFrom FL.keyList FV.newKey FV.oldKey FV.listedKey FV.checkKey FV.document FV.check nibble bytesOf isFractured frameOf answerOf digits decimal verdictText said answerText totalText linesFrom answersFrom benchText
 bench-says = refl
+
+-- the marks that the bench lends are enough for every frame that a line can hold, so that 15 never comes there
+pub marks-enough : (doc : List ℕ) → 2 * length doc ≤ longestLine → B.index doc + 4 ≤ length doc → BM.words doc ≤ benchMarks
+unfolding BM.words
+marks-enough doc h i = omega arith

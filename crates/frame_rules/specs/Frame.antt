@@ -4,10 +4,10 @@ use mathlib.Core.Bool.{Bool, false}
 use mathlib.Core.List.{List, [], _∷_, _++_}
 use mathlib.Core.Option.{Option, some, none}
 use lib.Dec.{ltb, eqb}
-use lib.ListN.{length, getD}
+use lib.ListN.{length, getD, replicate}
 use Rattle.json.specs.Choose.{choose}
-use Rattle.json.specs.Limits.{longestLine, benchKeys}
-use Rattle.json.specs.Reading.{Asked}
+use Rattle.json.specs.Limits.{longestLine, benchMarks, benchKeys}
+use Rattle.json.specs.Reading.{Asked, verdictOf}
 use Rattle.binary_json_rules.specs.Verdict as Binary
 use Rattle.fractured_json_rules.specs.KeyList.{noNames}
 use Rattle.fractured_json_rules.specs.Verdict as Fractured
@@ -51,9 +51,10 @@ pub data Answer : Type 0 where
 unfoldable pub isFractured : List ℕ → Bool
 isFractured doc = choose (eqb (getD doc 0 0) 0x46) (eqb (getD doc 1 0) 0x4A) false
 
--- "FJ gets a table of 4,096 keys", and a key list without a name; what is kept of the check is its verdict
+-- BinaryJson gets a mark for each word that the tree of a frame can have (document 02, L4); "FJ gets a table of 4,096
+-- keys", and a key list without a name. What is kept of a check is its verdict.
 unfoldable pub frameOf : List ℕ → Answer
-frameOf doc = choose (isFractured doc) (fractured (Fractured.verdictOf (Fractured.verdict benchKeys doc noNames))) (binary (Binary.verdict doc))
+frameOf doc = choose (isFractured doc) (fractured (verdictOf (Fractured.verdict benchKeys doc noNames))) (binary (verdictOf (Binary.verdict doc (replicate benchMarks 0))))
 
 abbrev pub answerIf : Option (List ℕ) → Answer
 answerIf none = hex

@@ -5,7 +5,7 @@ use mathlib.Core.Path.{_≡_, refl}
 use native.Mathlib.Omega.{arith}
 use Rattle.json.specs.Bytes.{number, lowField, highField, hex}
 use Rattle.json.specs.Choose.{choose}
-use Rattle.json.specs.Limits.{leastBinary, leastFractured, longest, deepest, mostKeys, longestLine, benchKeys}
+use Rattle.json.specs.Limits.{leastBinary, leastFractured, longest, deepest, mostKeys, longestLine, benchMarks, benchKeys}
 use Rattle.json.specs.Number.{binary32, binary64, finite, magnitude, floatTree, wholeTree, signedTree}
 use Rattle.json.specs.Texts.{byNumbers, compareTexts}
 use Rattle.json.specs.Tree.{Tree, null, bool, num, str, arr, obj, none, more, end, member, depth}
@@ -77,5 +77,5 @@ in-it = (
 
 -- the limits of documents 01 and 02
 pub limits :
-    (leastBinary ≡ 12) × (leastFractured ≡ 4) × (longest ≡ 16_777_216) × (deepest ≡ 64) × (mostKeys ≡ 4_096) × (longestLine ≡ 32_768) × (benchKeys ≡ 4_096)
-limits = (refl, refl, refl, refl, refl, refl, refl)
+    (leastBinary ≡ 12) × (leastFractured ≡ 4) × (longest ≡ 16_777_216) × (deepest ≡ 64) × (mostKeys ≡ 4_096) × (longestLine ≡ 32_768) × (benchMarks ≡ 4_094) × (benchKeys ≡ 4_096)
+limits = (refl, refl, refl, refl, refl, refl, refl, refl)

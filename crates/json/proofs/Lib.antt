@@ -8,3 +8,4 @@ pub mod Bytes
 pub mod Cases
 pub mod Examples
 pub mod Table
+pub mod Alike

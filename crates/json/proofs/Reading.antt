@@ -1,10 +1,10 @@
 -- The laws of reading that may be refused: what a chain of readings says of its steps, and how it is put together.
-use mathlib.Core.Path.{_≡_, refl}
+use mathlib.Core.Path.{_≡_, refl, ap, _∙_}
 use mathlib.Core.Bool.{Bool, true, false}
 use Prim.Native.Nat.{ℕ, _≤_, _<_}
 use native.Mathlib.Omega.{arith}
 use lib.Dec.{T, leb, ltb, eqb, leb→le, ltb→lt, eqb→eq, eqb-refl}
-use Rattle.json.specs.Reading.{Outcome, halt, done, Reading, follow, _>>=_, need}
+use Rattle.json.specs.Reading.{Outcome, halt, done, Reading, Asked, follow, _>>=_, need}
 
 pub halt≢done : {S A : Type 0} {n p : ℕ} {s z : S} {a : A} → halt n p s ≡ done a z → ⊥
 halt≢done e = let w : _≡_ {A = ℕ} 0 1 = cc in omega arith
@@ -95,3 +95,31 @@ assoc-by f g (done a s) = refl
 pub assoc : {S A B C : Type 0} (m : Reading S A) (f : A → Reading S B) (g : B → Reading S C) (s : S) → ((m >>= f) >>= g) s ≡ (m >>= λ a. f a >>= g) s
 unfolding _>>=_
 assoc m f g s = assoc-by f g (m s)
+
+-- ---- a reading that neither looks at what is kept nor changes it says the same whatever is kept
+
+-- what is said where nothing is kept, beside s
+abbrev pub carry : {S A : Type 0} → S → Asked A → Outcome S A
+carry s (halt n p u) = halt n p s
+carry s (done a u) = done a s
+
+module _ {S : Type 0} where
+  follows : {A B : Type 0} (q : Asked A) (f : A → Reading S B) (g : A → Reading (Unit {0}) B) (s : S) → ((a : A) → f a s ≡ carry s (g a tt))
+      → follow (carry s q) f ≡ carry s (follow q g)
+  unfolding follow
+  follows (halt n p u) f g s h = refl
+  follows (done a u) f g s h = h a
+
+  pub carry-then : {A B : Type 0} (m : Reading S A) (n : Reading (Unit {0}) A) (f : A → Reading S B) (g : A → Reading (Unit {0}) B) (s : S)
+      → m s ≡ carry s (n tt) → ((a : A) → f a s ≡ carry s (g a tt)) → (m >>= f) s ≡ carry s ((n >>= g) tt)
+  unfolding _>>=_
+  carry-then m n f g s h k = ap (λ o. follow o f) h ∙ follows (n tt) f g s k
+
+  pub carry-need : (t : Bool) (n p : ℕ) (s : S) → need t n p s ≡ carry s (need t n p tt)
+  unfolding need
+  carry-need true n p s = refl
+  carry-need false n p s = refl
+
+  pub carry-test : {B : Type 0} (t : Bool) (n p : ℕ) (f : Unit {0} → Reading S B) (g : Unit {0} → Reading (Unit {0}) B) (s : S) → f tt s ≡ carry s (g tt tt)
+      → (need t n p >>= f) s ≡ carry s ((need t n p >>= g) tt)
+  carry-test t n p f g s h = carry-then (need t n p) (need t n p) f g s (carry-need t n p s) (λ _. h)

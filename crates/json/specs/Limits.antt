@@ -19,9 +19,13 @@ deepest = 64
 abbrev pub mostKeys : ℕ
 mostKeys = 4_096
 
--- the bench: the most characters in a line, and the keys that its table has room for
+-- the bench: the most characters in a line, the marks that it lends (one for each word that the tree of a frame can
+-- have), and the keys that its table has room for
 abbrev pub longestLine : ℕ
 longestLine = 32_768
+
+abbrev pub benchMarks : ℕ
+benchMarks = 4_094
 
 abbrev pub benchKeys : ℕ
 benchKeys = 4_096

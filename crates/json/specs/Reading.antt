@@ -5,8 +5,9 @@ use mathlib.Core.Bool.{Bool, true, false}
 use Rattle.json.specs.declared.Verdict.{Verdict}
 use Rattle.json.specs.declared.Verdict.the-variants.{Accepted, Refused}
 
--- How a reading ends: stopped by a refusal with its number and place, or done with an answer. S is what a reading keeps on
--- its way (nothing for BinaryJson, the keys passed for Fractured JSON), and it is known in both cases.
+-- How a reading ends: stopped by a refusal with its number and place, or done with an answer. S is what a reading keeps
+-- on its way (the lent marks for BinaryJson, the keys passed for Fractured JSON, nothing for the questions), and it is
+-- known in both cases.
 pub data Outcome (S A : Type 0) : Type 0 where
   halt : (number place : ℕ) → S → Outcome S A
   done : A → S → Outcome S A
@@ -58,6 +59,16 @@ answers a = done a tt
 
 abbrev pub refuses : {A : Type 0} → ℕ → ℕ → Asked A
 refuses number place = halt number place tt
+
+-- ---- what a reading has kept, and what it says without that, however it ends
+
+abbrev pub keptOf : {S A : Type 0} → Outcome S A → S
+keptOf (halt number place s) = s
+keptOf (done a s) = s
+
+abbrev pub verdictOf : {S A : Type 0} → Outcome S A → Asked A
+verdictOf (halt number place s) = refuses number place
+verdictOf (done a s) = answers a
 
 -- ---- the verdict of the code, with 01's number and place
 

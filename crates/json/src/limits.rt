@@ -13,7 +13,9 @@ pub const DEEPEST: usize = 64;
 // The most keys that a key table has room for.
 pub const MOST_KEYS: usize = 4096;
 
-// The bench: the most characters in a line, and the keys that its table has room for.
+// The bench: the most characters in a line, the marks that it lends, and the keys that its table has room for.
 pub const LONGEST_LINE: usize = 32768;
+
+pub const BENCH_MARKS: usize = 4094;
 
 pub const BENCH_KEYS: usize = 4096;

@@ -1,11 +1,12 @@
-// BinaryJson: the deepest document and one level more.
+// BinaryJson: the deepest document and one level more, with marks enough.
 use crate::documents::put_four;
 use crate::say::say;
 use crate::say::verdict;
 
 fn check(case: &[u8], doc: &[u8]) {
+    let mut marks = [0u8; 256];
     say(case);
-    verdict(binary_json::check(doc));
+    verdict(binary_json::check(doc, &mut marks));
     say(b"\n");
 }
 

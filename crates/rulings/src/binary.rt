@@ -1,4 +1,5 @@
-// The questions of BinaryJson: each is put to the reader, and its answer brought into the common form.
+// The questions of BinaryJson: each is put to the reader, and its answer brought into the common form. A row of the
+// check may lend marks, and then says what they hold afterwards.
 use crate::answers::ABSENT;
 use crate::answers::Answer;
 use crate::answers::NO;
@@ -9,12 +10,16 @@ use crate::answers::one;
 use crate::answers::two;
 use crate::answers::verdict;
 use crate::answers::word;
+use crate::parse::Said;
+use crate::parse::bytes;
 use crate::parse::cut;
+use crate::parse::part;
 use crate::questions;
 use crate::questions::Asked;
 use crate::questions::read;
 use crate::spell::put_answer;
 use crate::spell::put_hex;
+use crate::spell::put_text;
 use binary_json::Bits;
 use binary_json::Looked;
 use binary_json::MemberAt;
@@ -25,6 +30,8 @@ use binary_json::Span;
 use binary_json::TreeAt;
 use binary_json::TreeOffset;
 use binary_json::Typed;
+use json::Verdict;
+use text::same;
 
 fn sized(s: Sized) -> Answer {
     match s {
@@ -121,17 +128,22 @@ fn at_meta(q: usize, doc: &[u8], cursor: TreeOffset, i: usize, key: &[u8]) -> An
     }
 }
 
+// The check with marks enough for any row, and noise in them.
+fn check(doc: &[u8]) -> Verdict {
+    let mut marks = [0xA5u8; 512];
+    binary_json::check(doc, &mut marks)
+}
+
 fn ask(a: Asked, doc: &[u8], key: &[u8]) -> Answer {
     let q = a.question;
     match q {
-        questions::CHECK => verdict(binary_json::check(doc)),
+        questions::CHECK => verdict(check(doc)),
         questions::SLOT => span(binary_json::slot(doc, SlotOffset(a.cursor))),
         _ => at_meta(q, doc, TreeOffset(a.cursor), a.index, cut(key, 0, a.key)),
     }
 }
 
-// Spells the answer to a row's question, or nothing where the row cannot be read.
-pub(crate) fn answer(out: &mut [u8], n: usize, doc: &[u8], row: &[u8]) -> usize {
+fn answer_at(out: &mut [u8], n: usize, doc: &[u8], row: &[u8]) -> usize {
     let mut key = [0u8; 256];
     let a = read(row, 2, &mut key);
     let q = a.question;
@@ -144,4 +156,51 @@ pub(crate) fn answer(out: &mut [u8], n: usize, doc: &[u8], row: &[u8]) -> usize 
         ),
         _ => put_answer(out, n, ask(a, doc, &key)),
     }
+}
+
+// ---- the lent marks
+
+// The marks that a row lends, in hexadecimal; empty where it has no such option.
+fn option(row: &[u8]) -> &[u8] {
+    let w = part(row, b' ', 2);
+    if same(part(w, b'=', 0), b"marks") {
+        return part(w, b'=', 1);
+    }
+    cut(row, 0, 0)
+}
+
+// The verdict, and the marks afterwards.
+fn check_with(out: &mut [u8], n: usize, doc: &[u8], marks: &mut [u8]) -> usize {
+    let v = binary_json::check(doc, marks);
+    let n = put_answer(out, n, verdict(v));
+    let n = put_text(out, n, b" marks=");
+    put_hex(out, n, marks)
+}
+
+fn lend_part(out: &mut [u8], n: usize, doc: &[u8], marks: &mut [u8], len: usize) -> usize {
+    if marks.len() < len {
+        return n;
+    }
+    check_with(out, n, doc, &mut marks[0..len])
+}
+
+fn lend(out: &mut [u8], n: usize, doc: &[u8], option: &[u8]) -> usize {
+    let mut marks = [0u8; 64];
+    let len = bytes(option, &mut marks);
+    match len {
+        Said::Is(len) => lend_part(out, n, doc, &mut marks, len),
+        Said::Nothing => n,
+    }
+}
+
+// Spells the answer to a row's question, or nothing where the row cannot be read.
+pub(crate) fn answer(out: &mut [u8], n: usize, doc: &[u8], row: &[u8]) -> usize {
+    let marks = option(row);
+    if marks.len() == 0 {
+        return answer_at(out, n, doc, row);
+    }
+    if same(part(row, b' ', 3), b"check") {
+        return lend(out, n, doc, marks);
+    }
+    n
 }

@@ -3,6 +3,7 @@
 use Prim.Native.Nat.{ℕ}
 use mathlib.Core.Bool.{true, false}
 use mathlib.Core.List.{List, [], _∷_}
+use lib.ListN.{length, replicate}
 use Rattle.json.specs.Bytes.{hex}
 use Rattle.json.specs.Limits.{mostKeys}
 use Rattle.json.specs.Number.{scaled}
@@ -23,17 +24,18 @@ pub data Says : Type 0 where
   means : Tree → Says
   refused : (number place : ℕ) → Says
 
--- what the definitions say of a document, Fractured JSON with a key list without a name: the tree of an accepted one, or the refusal
-abbrev pub ofBinary : List ℕ → Outcome (Unit {0}) (Unit {0}) → Says
-ofBinary doc (halt number place u) = refused number place
-ofBinary doc (done a u) = means (BinaryTree.treeOf doc)
+-- what the definitions say of a document, BinaryJson with marks enough, Fractured JSON with a key list without a name:
+-- the tree of an accepted one, or the refusal
+abbrev pub ofBinary : List ℕ → Outcome (List ℕ) (Unit {0}) → Says
+ofBinary doc (halt number place marks) = refused number place
+ofBinary doc (done a marks) = means (BinaryTree.treeOf doc)
 
 abbrev pub ofFractured : ℕ → List ℕ → Outcome Keys (Unit {0}) → Says
 ofFractured room doc (halt number place ks) = refused number place
 ofFractured room doc (done a ks) = means (FracturedTree.treeOf room doc noNames)
 
 abbrev pub saysOf : Format → List ℕ → Says
-saysOf binaryJson doc = ofBinary doc (Binary.verdict doc)
+saysOf binaryJson doc = ofBinary doc (Binary.verdict doc (replicate (length doc) 0))
 saysOf fracturedJson doc = ofFractured mostKeys doc (Fractured.verdict mostKeys doc noNames)
 
 pub record Specimen : Type 0 where

@@ -1,6 +1,7 @@
 //! What is timed and counted: a question, asked of both readers with the same bytes.
 
 use crate::asked::{self, Asked};
+use differential::compare::number;
 use differential::exports::timed;
 use std::hint::black_box;
 use std::io::{self, Read, Write};
@@ -13,6 +14,8 @@ pub const BINARY_ROOT: u64 = 4;
 #[derive(Clone, Copy, PartialEq)]
 pub enum Question {
     BinaryCheck,
+    /// The check of a document in which two containers overlap: it must be refused with 14.
+    BinaryOverlap,
     FracturedCheck,
     ListCheck,
     QuickLookup,
@@ -26,6 +29,7 @@ impl Question {
     fn all() -> impl Iterator<Item = Question> {
         [
             Question::BinaryCheck,
+            Question::BinaryOverlap,
             Question::FracturedCheck,
             Question::ListCheck,
             Question::QuickLookup,
@@ -68,6 +72,13 @@ impl Case {
         }
     }
 
+    pub fn binary_overlap(doc: Vec<u8>) -> Case {
+        Case {
+            question: Question::BinaryOverlap,
+            ..Case::binary_check(doc)
+        }
+    }
+
     pub fn fractured_check(doc: Vec<u8>, list: Vec<u8>) -> Case {
         Case {
             question: Question::FracturedCheck,
@@ -86,13 +97,13 @@ impl Case {
         }
     }
 
-    /// One call of the proved reader, or a lookup of each key, or a question at each place. A check must accept.
+    /// One call of the proved reader, or a lookup of each key, or a question at each place. A check must accept, but
+    /// for overlaps.
     pub fn proved(&self) -> Call<'_> {
         let bytes = &self.bytes[..];
         match self.question {
-            Question::BinaryCheck => {
-                Box::new(move || assert_eq!(timed::binary_json::check(black_box(bytes)), 0))
-            }
+            Question::BinaryCheck => self.checked_by(timed::binary_json::check, 0),
+            Question::BinaryOverlap => self.checked_by(timed::binary_json::check, 14),
             Question::FracturedCheck => {
                 let (list, mut table) = (&self.beside[0][..], key_table());
                 Box::new(move || {
@@ -118,9 +129,8 @@ impl Case {
     pub fn plain(&self) -> Call<'_> {
         let bytes = &self.bytes[..];
         match self.question {
-            Question::BinaryCheck => {
-                Box::new(move || assert_eq!(plain::binary_json::check(black_box(bytes)), Ok(())))
-            }
+            Question::BinaryCheck => self.checked_by(plain_check, 0),
+            Question::BinaryOverlap => self.checked_by(plain_check, 14),
             Question::FracturedCheck => {
                 let (list, mut table) = (&self.beside[0][..], key_table());
                 Box::new(move || {
@@ -140,6 +150,16 @@ impl Case {
             }),
             Question::Asked(asked) => asked.plain(self),
         }
+    }
+
+    /// A BinaryJson check whose verdict must have this number. Marks are lent, one for each word of the document.
+    fn checked_by<'a>(
+        &'a self,
+        check: impl Fn(&[u8], &mut [u8]) -> u32 + 'a,
+        number: u32,
+    ) -> Call<'a> {
+        let mut marks = vec![0; self.bytes.len() / 4];
+        Box::new(move || assert_eq!(check(black_box(&self.bytes), &mut marks), number))
     }
 
     fn lookups(&self, look: fn(&[u8], &[u8])) -> Call<'_> {
@@ -179,6 +199,11 @@ impl Case {
                 .collect::<io::Result<_>>()?,
         })
     }
+}
+
+/// The number of the plain reader's verdict.
+fn plain_check(doc: &[u8], marks: &mut [u8]) -> u32 {
+    number(plain::binary_json::check(doc, marks)) as u32
 }
 
 fn word(from: &mut impl Read) -> io::Result<u64> {

@@ -7,9 +7,28 @@ use crate::shapes::{Shape, digits, names, object, objects_of, season, shapes, va
 use crate::tables::{Row, row};
 use differential::LONGEST;
 use documents::Tree;
+use documents::binary_json::{Order, document_in};
+
+/// Writes the document of a tree.
+pub type Writer = fn(&Tree) -> Vec<u8>;
 
 pub fn binary_document(tree: &Tree) -> Vec<u8> {
     documents::binary_json::document(tree, &Tree::Null)
+}
+
+/// BinaryJson in other orders of containers than depth first, by their names.
+pub const OTHER_ORDERS: [(&str, Writer); 2] = [
+    ("breadth first", |tree| {
+        document_in(tree, &Tree::Null, Order::BreadthFirst)
+    }),
+    ("shuffled", |tree| {
+        document_in(tree, &Tree::Null, Order::Shuffled(1))
+    }),
+];
+
+/// Whether this writes another document than depth first.
+pub fn is_other(write: Writer, tree: &Tree) -> bool {
+    write(tree) != binary_document(tree)
 }
 
 pub fn fractured_document(tree: &Tree) -> Vec<u8> {
@@ -22,15 +41,25 @@ pub fn fractured_check(doc: Vec<u8>) -> Case {
 }
 
 pub fn binary_checks() -> Vec<Row> {
-    shapes()
-        .into_iter()
-        .map(|Shape { name, tree }| {
-            row(name, move || {
-                (Case::binary_check(binary_document(&tree)), values(&tree))
-            })
+    let of_shape = |name, tree: Tree, write: Writer| {
+        row(name, move || {
+            (Case::binary_check(write(&tree)), values(&tree))
         })
-        .chain([season_row(binary_document, Case::binary_check)])
-        .collect()
+    };
+    let mut rows: Vec<Row> = shapes()
+        .into_iter()
+        .map(|Shape { name, tree }| of_shape(name.to_string(), tree, binary_document))
+        .collect();
+    rows.push(season_row("season", binary_document, Case::binary_check));
+    for (order, write) in OTHER_ORDERS {
+        let others = shapes().into_iter();
+        for Shape { name, tree } in others.filter(|shape| is_other(write, &shape.tree)) {
+            rows.push(of_shape(format!("{name}, {order}"), tree, write));
+        }
+        let name = format!("season, {order}");
+        rows.push(season_row(name, write, Case::binary_check));
+    }
+    rows
 }
 
 pub fn fractured_checks() -> Vec<Row> {
@@ -43,7 +72,7 @@ pub fn fractured_checks() -> Vec<Row> {
         })
         .chain([
             global_row(),
-            season_row(fractured_document, fractured_check),
+            season_row("season", fractured_document, fractured_check),
         ])
         .collect()
 }
@@ -60,9 +89,9 @@ fn global_row() -> Row {
 }
 
 /// The season, with as many steps as a document can have.
-fn season_row(document: fn(&Tree) -> Vec<u8>, check: fn(Vec<u8>) -> Case) -> Row {
-    row("season", move || {
-        let (tree, doc) = filled(LONGEST, season, document);
+fn season_row(name: impl Into<String>, write: Writer, check: fn(Vec<u8>) -> Case) -> Row {
+    row(name, move || {
+        let (tree, doc) = filled(LONGEST, season, write);
         (check(doc), values(&tree))
     })
 }

@@ -1,16 +1,19 @@
 //! Documents of about 64 KB, 1 MB and 16 MB of one shape, whose checks should take the same time a byte.
 
 use crate::cases::Case;
-use crate::checks::{binary_document, fractured_check, fractured_document};
+use crate::checks::{
+    OTHER_ORDERS, Writer, binary_document, fractured_check, fractured_document, is_other,
+};
 use crate::lengths::{LENGTHS, MOST_KEYS, filled, full_room, repeated};
-use crate::shapes::{any_value, key, member, names, numbers, object, objects_of, season};
+use crate::overlaps::{last_word_marked, named_twice};
+use crate::shapes::{any_value, array, key, member, names, numbers, object, objects_of, season};
 use crate::tables::Made;
 use differential::DEEPEST;
 use documents::Tree;
 
 /// A shape, whose case is made for a length that its document does not pass.
 pub struct Growing {
-    name: &'static str,
+    name: String,
     make: Box<dyn Fn(usize) -> Case>,
 }
 
@@ -20,7 +23,7 @@ impl Growing {
         LENGTHS.map(|(length, _)| {
             let case = (self.make)(length);
             Made {
-                name: self.name.to_string(),
+                name: self.name.clone(),
                 per: case.bytes.len(),
                 case,
             }
@@ -28,9 +31,9 @@ impl Growing {
     }
 }
 
-fn growing(name: &'static str, make: impl Fn(usize) -> Case + 'static) -> Growing {
+fn growing(name: impl Into<String>, make: impl Fn(usize) -> Case + 'static) -> Growing {
     Growing {
-        name,
+        name: name.into(),
         make: Box::new(make),
     }
 }
@@ -84,10 +87,6 @@ fn shapes() -> Vec<Parts> {
     ]
 }
 
-fn array(n: usize, item: impl FnMut(usize) -> Tree) -> Tree {
-    Tree::Array((0..n).map(item).collect())
-}
-
 /// Containers from level 2 to the deepest, the last of them empty.
 fn chain(around: fn(Tree) -> Tree) -> Tree {
     (3..=DEEPEST).fold(Tree::Array(vec![]), |inner, _| around(inner))
@@ -101,11 +100,18 @@ fn random() -> impl Iterator<Item = u32> {
 }
 
 fn binary_shapes() -> Vec<Growing> {
-    let of_parts = |(name, tree): Parts| {
+    let filled_by = |name: String, tree: fn(usize) -> Tree, write: Writer| {
         growing(name, move |length| {
-            Case::binary_check(filled(length, tree, binary_document).1)
+            Case::binary_check(filled(length, tree, write).1)
         })
     };
+    let of_parts = |(name, tree): Parts| filled_by(name.to_string(), tree, binary_document);
+    let in_other_orders = OTHER_ORDERS.into_iter().flat_map(|(order, write)| {
+        let others = shapes()
+            .into_iter()
+            .filter(move |(_, tree)| is_other(write, &tree(64)));
+        others.map(move |(name, tree)| filled_by(format!("{name}, {order}"), tree, write))
+    });
     let of_tree = |name, tree: fn(usize) -> Tree| {
         growing(name, move |length| {
             Case::binary_check(binary_document(&tree(length)))
@@ -130,6 +136,14 @@ fn binary_shapes() -> Vec<Growing> {
                 array(2, |i| Tree::Text(alike(length / 2 - 32, i)))
             }),
             of_tree("one string", |length| Tree::Text(vec![b's'; length - 32])),
+        ])
+        .chain(in_other_orders)
+        .chain([
+            growing(
+                "refused: an array whose last word is marked",
+                last_word_marked,
+            ),
+            growing("refused: empty arrays, one named twice", named_twice),
         ])
         .collect()
 }

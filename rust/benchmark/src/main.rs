@@ -11,6 +11,7 @@ mod hostile;
 mod instructions;
 mod lengths;
 mod lookups;
+mod overlaps;
 mod print;
 mod questions;
 mod shapes;

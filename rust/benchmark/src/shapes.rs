@@ -117,9 +117,13 @@ fn levels(n: usize) -> Tree {
     })
 }
 
+pub fn array(n: usize, item: impl FnMut(usize) -> Tree) -> Tree {
+    Tree::Array((0..n).map(item).collect())
+}
+
 /// An array of binary64 numbers.
 pub fn numbers(n: usize) -> Tree {
-    Tree::Array((0..n).map(|i| Tree::number(i as f64 / 8.0)).collect())
+    array(n, |i| Tree::number(i as f64 / 8.0))
 }
 
 /// A value of the kind that the last three bits of `kind` choose. A number is `number`, a Boolean says whether that is

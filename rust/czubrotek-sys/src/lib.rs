@@ -64,7 +64,7 @@ macro_rules! functions {
 }
 
 functions! {
-    fn bj_check(&[u8] doc);
+    fn bj_check(&[u8] doc, &mut [u8] marks);
     fn bj_kind_and_size(&[u8] doc, u64 tree);
     fn bj_element(&[u8] doc, u64 tree, u64 i);
     fn bj_member(&[u8] doc, u64 tree, u64 j);

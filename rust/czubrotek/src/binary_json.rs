@@ -2,6 +2,7 @@
 //!
 //! A document is a tree of four-byte words, an index of strings in ascending order and an area of numbers. A container
 //! is known by the offset of its Meta word, a value in it by the offset of its Entry, a string by the offset of its slot.
+//! Containers may stand in any order, each after its parent's Meta; each word of the tree belongs to exactly one.
 //!
 //! Accept, and look up:
 //!
@@ -113,6 +114,13 @@ impl Number {
     }
 }
 
+/// How many marks are enough to check a document of so many bytes: a quarter of its length. Over 16,777,216 bytes it
+/// stays at 4,194,304, as such a document is refused before any mark is asked for.
+pub const fn marks_enough(length: usize) -> usize {
+    const MOST: usize = 16_777_216 / 4;
+    if length / 4 < MOST { length / 4 } else { MOST }
+}
+
 /// A BinaryJson document, checked or not.
 #[derive(Debug, Clone, Copy)]
 pub struct Document<'a> {
@@ -120,9 +128,50 @@ pub struct Document<'a> {
 }
 
 impl<'a> Document<'a> {
-    /// Checks the bytes: exactly those that keep every rule are accepted. Refusals 1 to 13.
+    /// Checks the bytes: exactly those that keep every rule are accepted. Refusals 1 to 14. The check brings the marks
+    /// that it needs.
     pub fn check(bytes: &'a [u8]) -> Result<Document<'a>, Refusal> {
-        ask::<1>(|out| sys::bj_check(bytes, out))?;
+        let enough = marks_enough(bytes.len());
+        // documents of up to 1,027 bytes do without the heap, which is faster
+        let mut few = [0; 256];
+        match few.get_mut(..enough) {
+            Some(marks) => Document::check_with_marks(bytes, marks),
+            None => Document::check_with_marks(bytes, &mut vec![0; enough]),
+        }
+    }
+
+    /// Checks as [`check`](Document::check) does, with lent marks: a byte for each word of the tree, mark k for the
+    /// word at 4+4k. [`marks_enough`] of them are always enough, and too few are 15, at the offset of the string index.
+    /// What they hold before is never asked.
+    ///
+    /// The body of each container that passes 12, 8 and 14 is marked, its Meta included. After refusals 1 to 7 and 15
+    /// the marks hold what they held. Otherwise those of the tree's words are 1 in the bodies marked and 0 elsewhere,
+    /// so all 1 after acceptance, and those beyond hold what they held.
+    ///
+    /// ```
+    /// use czubrotek::{Refusal, binary_json::{Document, marks_enough}};
+    ///
+    /// // [[]], whose tree has three words
+    /// let bytes = b"\x01\x02\0\0\x20\0\0\0\x85\x01\0\0\0\0\0\0\0\0\0\0";
+    /// let mut marks = [7; marks_enough(20)];
+    /// assert!(Document::check_with_marks(bytes, &mut marks).is_ok());
+    /// assert_eq!(marks, [1, 1, 1, 7, 7]);
+    ///
+    /// // two marks are too few, and stay as they are
+    /// let mut marks = [7; 2];
+    /// let refusal = Document::check_with_marks(bytes, &mut marks).unwrap_err();
+    /// assert_eq!(refusal, Refusal { number: 15, place: 16 });
+    /// assert_eq!(marks, [7, 7]);
+    ///
+    /// // [[]] again, with a word between the two arrays that belongs to neither
+    /// let bytes = b"\x81\x02\0\0\x20\0\0\0\x05\x02\0\0\0\0\0\0\0\0\0\0\0\0\0\0";
+    /// let mut marks = [7; marks_enough(24)];
+    /// let refusal = Document::check_with_marks(bytes, &mut marks).unwrap_err();
+    /// assert_eq!(refusal, Refusal { number: 13, place: 12 });
+    /// assert_eq!(marks, [1, 1, 0, 1, 7, 7]);
+    /// ```
+    pub fn check_with_marks(bytes: &'a [u8], marks: &mut [u8]) -> Result<Document<'a>, Refusal> {
+        ask::<1>(|out| sys::bj_check(bytes, marks, out))?;
         Ok(Document { bytes })
     }
 

@@ -5,8 +5,8 @@ use std::fmt;
 
 /// A refusal: the number of the first rule that failed, and the place where it failed.
 ///
-/// The place is an offset in the document, or a question's cursor; for 1, 2, 31 and 32 it is the document's length, for 51 to
-/// 54 an offset in the key list.
+/// The place is an offset in the document, or a question's cursor; for 1, 2, 31 and 32 it is the document's length, for
+/// 51 to 54 an offset in the key list. That of 8 and 12 may be past the document, where an Entry names such a place.
 ///
 /// ```
 /// use czubrotek::binary_json::Document;
@@ -43,12 +43,14 @@ impl Refusal {
             }
             9 => {
                 "Entry type over 5, string not a slot, number not in step inside its area, \
-                 container not at the place due, or container under kind 2"
+                 container not at a multiple of 4 past its parent's Meta, or container under kind 2"
             }
             10 => "used number not finite",
             11 => "KeyEntry not a slot, or not above the one before",
             12 => "containers nested over 64",
-            13 => "tree ends before the string index",
+            13 => "word of the tree in no container's body",
+            14 => "container named twice, or a word of its body in another's",
+            15 => "fewer marks lent than the tree has words",
             20 => {
                 "a word, body, slot, text or number outside its area or out of step, or an FJ cursor under 3"
             }
@@ -117,12 +119,17 @@ mod tests {
             (
                 9,
                 "Entry type over 5, string not a slot, number not in step inside its area, \
-                 container not at the place due, or container under kind 2",
+                 container not at a multiple of 4 past its parent's Meta, or container under kind 2",
             ),
             (10, "used number not finite"),
             (11, "KeyEntry not a slot, or not above the one before"),
             (12, "containers nested over 64"),
-            (13, "tree ends before the string index"),
+            (13, "word of the tree in no container's body"),
+            (
+                14,
+                "container named twice, or a word of its body in another's",
+            ),
+            (15, "fewer marks lent than the tree has words"),
             (
                 20,
                 "a word, body, slot, text or number outside its area or out of step, or an FJ cursor under 3",
@@ -161,7 +168,7 @@ mod tests {
 
     #[test]
     fn every_other_number_says_so() {
-        for number in [0, 14, 19, 23, 30, 44, 50, 55, 255] {
+        for number in [0, 16, 19, 23, 30, 44, 50, 55, 255] {
             let refusal = Refusal { number, place: 8 };
             assert_eq!(refusal.meaning(), "no number of the tables");
         }

@@ -93,6 +93,43 @@ fn binary_whole(document: binary_json::Document, value: binary_json::Value) -> b
     }
 }
 
+/// Checks with marks that hold these bytes, and holds verdict and marks to each other and to the check that brings its
+/// own. Answers the refusal's number, 0 where there is none.
+fn binary_marks(bytes: &[u8], held: &[u8]) -> usize {
+    use binary_json::Document;
+    let own = Document::check(bytes).err();
+    let mut marks = held.to_vec();
+    let said = Document::check_with_marks(bytes, &mut marks).err();
+    let (number, place) = said.map_or((0, 0), |refusal| (refusal.number, refusal.place as usize));
+    if let 1..=7 | 15 = number {
+        assert_eq!(marks, held);
+    }
+    if let 1..=7 = number {
+        assert_eq!(said, own);
+        return number as usize;
+    }
+    let index = u32::from_le_bytes(*bytes.first_chunk().unwrap()) as usize / 32;
+    let mark_of = |place: usize| place / 4 - 1;
+    let words = mark_of(index);
+    if number == 15 {
+        assert!(held.len() < words && place == index);
+        assert!(own.is_none_or(|refusal| (8..15).contains(&refusal.number)));
+        return 15;
+    }
+    assert_eq!(said, own);
+    assert_eq!(marks[words..], held[words..]);
+    assert!(marks[..words].iter().all(|&mark| mark < 2));
+    let unmarked = marks[..words].iter().position(|&mark| mark == 0);
+    match number {
+        0 => assert_eq!(unmarked, None),
+        9..=11 => assert_eq!(marks[mark_of(place)], 1),
+        13 => assert_eq!(unmarked, Some(mark_of(place))),
+        14 => assert!(marks[mark_of(place)..words].contains(&1)),
+        _ => {}
+    }
+    number as usize
+}
+
 /// Whether no step of a checked document is refused, and each item is what its question says.
 fn fractured_whole(value: fractured_json::Value) -> bool {
     use fractured_json::Value;
@@ -123,9 +160,11 @@ fn binary_json() {
         "81010000220000000402000000000000000000000000F03F",
         "81010000200000008500000000000000",
         "01030000410000001C000000200000000100000002000000030000004005000080050000C0050000610062006300",
+        "010400004000000005020000050300002000000085030000000000000000000000000000",
     ];
     let mut numbers = Numbers(0x9E37_79B9_7F4A_7C15);
     let mut values = 0;
+    let mut met = [false; 16];
     for turn in 0..200_000 {
         let bytes = numbers.spoil(specimens[turn % specimens.len()]);
         let document = Document::unchecked(&bytes);
@@ -147,8 +186,15 @@ fn binary_json() {
                 "{bytes:02X?}"
             );
         }
+        let held: Vec<u8> = (0..numbers.below(12))
+            .map(|_| numbers.next() as u8)
+            .collect();
+        met[binary_marks(&bytes, &held)] = true;
     }
     assert!(values > 50_000, "{values}");
+    // all but 2 and 12, for which the documents are too short
+    let unmet: Vec<_> = (0..16).filter(|&number| !met[number]).collect();
+    assert_eq!(unmet, [2, 12]);
 }
 
 #[test]

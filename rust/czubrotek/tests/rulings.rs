@@ -20,10 +20,14 @@ fn pair(a: impl Display, b: impl Display) -> String {
 }
 
 fn text(answer: Result<&[u8], Refusal>) -> String {
-    match answer {
-        Ok(text) if !text.is_empty() => text.iter().map(|b| format!("{b:02X}")).collect(),
-        _ => "-".to_string(),
+    spelled(answer.unwrap_or_default())
+}
+
+fn spelled(bytes: &[u8]) -> String {
+    if bytes.is_empty() {
+        return "-".to_string();
     }
+    bytes.iter().map(|b| format!("{b:02X}")).collect()
 }
 
 /// The rows' number of a type or kind.
@@ -32,7 +36,26 @@ fn number(name: impl std::fmt::Debug, names: &[&str]) -> usize {
     names.iter().position(|n| *n == name).unwrap()
 }
 
-fn binary(bytes: &[u8], question: &str, args: &[&str]) -> String {
+/// A check with the marks that the row lends, which the answer then shows, or with enough of them, full of noise.
+fn binary_check(bytes: &[u8], lent: Option<&[u8]>) -> String {
+    use binary_json::{Document, marks_enough};
+    let verdict =
+        |checked: Result<Document, Refusal>| checked.map_or_else(no, |_| "ok".to_string());
+    let noise = || {
+        (0..marks_enough(bytes.len()))
+            .map(|k| (157 * k + 1) as u8)
+            .collect()
+    };
+    let mut marks = lent.map_or_else(noise, Vec::from);
+    let said = verdict(Document::check_with_marks(bytes, &mut marks));
+    if lent.is_some() {
+        return format!("{said} marks={}", spelled(&marks));
+    }
+    assert_eq!(verdict(Document::check(bytes)), said);
+    said
+}
+
+fn binary(bytes: &[u8], lent: &Lent, question: &str, args: &[&str]) -> String {
     use binary_json::{Document, SlotOffset, TreeOffset};
     let document = Document::unchecked(bytes);
     let cursor: u64 = args.first().map_or(0, |a| a.parse().unwrap());
@@ -40,7 +63,7 @@ fn binary(bytes: &[u8], question: &str, args: &[&str]) -> String {
     let slot = SlotOffset(cursor);
     let index = || args[1].parse().unwrap();
     match question {
-        "check" => Document::check(bytes).map_or_else(no, |_| "ok".to_string()),
+        "check" => binary_check(bytes, lent.marks.as_deref()),
         "kind_and_size" => {
             let kinds = ["Array", "Object", "Scalar"];
             said(
@@ -128,8 +151,9 @@ fn fractured(bytes: &[u8], lent: &Lent, question: &str, args: &[&str]) -> String
     }
 }
 
-/// What a row of FJ lends beside the document: the words of a check, the table and count of a question.
+/// What a row lends beside the document: the marks or the words of a check, the table and count of a question of FJ.
 struct Lent {
+    marks: Option<Vec<u8>>,
     words: usize,
     table: Vec<u32>,
     count: usize,
@@ -139,12 +163,14 @@ fn answer(question: &str) -> String {
     let (lends, asks): (Vec<&str>, Vec<&str>) =
         question.split(' ').partition(|word| word.contains('='));
     let mut lent = Lent {
+        marks: None,
         words: 2 * fractured_json::MOST_KEYS,
         table: Vec::new(),
         count: 0,
     };
     for (name, value) in lends.iter().filter_map(|word| word.split_once('=')) {
         match name {
+            "marks" => lent.marks = Some(hex(value)),
             "words" => lent.words = value.parse().unwrap(),
             "table" => lent.table = value.split(',').map(|w| w.parse().unwrap()).collect(),
             "count" => lent.count = value.parse().unwrap(),
@@ -153,7 +179,7 @@ fn answer(question: &str) -> String {
     }
     let bytes = hex(asks[1]);
     match asks[0] {
-        "B" => binary(&bytes, asks[2], &asks[3..]),
+        "B" => binary(&bytes, &lent, asks[2], &asks[3..]),
         _ => fractured(&bytes, &lent, asks[2], &asks[3..]),
     }
 }
@@ -170,6 +196,6 @@ fn every_row() {
             wrong += 1;
         }
     }
-    assert_eq!(rows.lines().count(), 223);
+    assert_eq!(rows.lines().count(), 243);
     assert_eq!(wrong, 0);
 }

@@ -1,21 +1,19 @@
 //! The bench specimens of document 01.
 
 mod common;
+#[path = "common/tree.rs"]
+mod tree;
 
 use common::hex;
 use czubrotek::{Refusal, binary_json, fractured_json};
 use fractured_json::KeyTable;
+use tree::{Json, array, binary_means, little_endian, object, text};
 
 /// The longest document of either format, in bytes.
 const LONGEST: usize = 16_777_216;
 
 /// How deep containers may nest.
 const DEEPEST: usize = 64;
-
-/// The bytes of words.
-fn little_endian(words: &[u32]) -> Vec<u8> {
-    words.iter().flat_map(|word| word.to_le_bytes()).collect()
-}
 
 /// The verdict on a BinaryJson document: nothing, or the refusal's number and place.
 fn binary(bytes: &[u8]) -> Option<(u32, u64)> {
@@ -27,39 +25,6 @@ fn binary(bytes: &[u8]) -> Option<(u32, u64)> {
 fn fractured(bytes: &[u8]) -> Option<(u32, u64)> {
     let refused = fractured_json::Document::check(bytes, &mut KeyTable::new()).err()?;
     Some((refused.refusal.number, refused.refusal.place))
-}
-
-type Json = Result<String, Refusal>;
-
-fn text(text: &[u8]) -> String {
-    format!("{:?}", String::from_utf8_lossy(text))
-}
-
-fn array<V>(items: impl Iterator<Item = Result<V, Refusal>>, tree: fn(V) -> Json) -> Json {
-    let items: Result<Vec<_>, _> = items.map(|item| tree(item?)).collect();
-    Ok(format!("[{}]", items?.join(",")))
-}
-
-fn object<'a, V>(
-    members: impl Iterator<Item = Result<(&'a [u8], V), Refusal>>,
-    tree: fn(V) -> Json,
-) -> Json {
-    let member = |(key, value)| Ok(format!("{}:{}", text(key), tree(value)?));
-    let members: Result<Vec<_>, _> = members.map(|m| m.and_then(member)).collect();
-    Ok(format!("{{{}}}", members?.join(",")))
-}
-
-/// A BinaryJson tree as JSON.
-fn binary_tree(value: binary_json::Value) -> Json {
-    use binary_json::Value;
-    Ok(match value {
-        Value::Null => "null".to_string(),
-        Value::Bool(b) => b.to_string(),
-        Value::Number(n) => format!("{:?}", n.to_f64()),
-        Value::String(string) => text(string),
-        Value::Array(items) => array(items.iter(), binary_tree)?,
-        Value::Object(members) => object(members.iter(), binary_tree)?,
-    })
 }
 
 /// A Fractured JSON tree as JSON.
@@ -76,11 +41,6 @@ fn fractured_tree(value: fractured_json::Value) -> Json {
         Value::Array(items) => array(items.iter(), fractured_tree)?,
         Value::Object(members) => object(members.iter(), fractured_tree)?,
     })
-}
-
-fn binary_means(bytes: &[u8]) -> String {
-    let document = binary_json::Document::check(bytes).unwrap();
-    binary_tree(document.value().unwrap()).unwrap()
 }
 
 fn fractured_means(bytes: &[u8]) -> String {
@@ -269,6 +229,11 @@ fn depths() {
     };
     assert_eq!(binary_means(&nested(DEEPEST)), whole);
     assert_eq!(binary(&nested(DEEPEST + 1)), Some((12, 516)));
+    // the last of its words, and that alone, is in no body marked
+    let mut marks = [7; 2 * DEEPEST + 1];
+    assert!(binary_json::Document::check_with_marks(&nested(DEEPEST + 1), &mut marks).is_err());
+    assert_eq!(marks[..2 * DEEPEST], [1; 2 * DEEPEST]);
+    assert_eq!(marks[2 * DEEPEST], 0);
 
     let nested = |depth: usize| [&hex("464A01")[..], &vec![0x9F; depth - 1], &[0x9E]].concat();
     assert_eq!(fractured_means(&nested(DEEPEST)), whole);

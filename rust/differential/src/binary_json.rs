@@ -3,6 +3,7 @@
 use crate::DEEPEST;
 use crate::random::Random;
 use documents::Tree;
+use documents::binary_json::{Order, document_in};
 
 /// The texts and numbers that a document is made of.
 pub(crate) struct Pool {
@@ -74,7 +75,7 @@ impl Pool {
 }
 
 /// A document: nested by chance, one scalar, or a chain of containers about as deep as may be.
-pub fn document(random: &mut Random) -> Vec<u8> {
+pub fn document(random: &mut Random, order: Order) -> Vec<u8> {
     let pool = Pool::new(random);
     let tree = match random.below(12) {
         0 => pool.value(random, 0),
@@ -84,5 +85,24 @@ pub fn document(random: &mut Random) -> Vec<u8> {
         }
         _ => pool.container(random, 5),
     };
-    documents::binary_json::document(&tree, &pool.tree())
+    document_in(&tree, &pool.tree(), order)
+}
+
+/// The word at an offset.
+pub(crate) fn word(doc: &[u8], at: usize) -> u32 {
+    u32::from_le_bytes([doc[at], doc[at + 1], doc[at + 2], doc[at + 3]])
+}
+
+/// How many words the tree has by the header, but no more than the document.
+pub(crate) fn tree_words(doc: &[u8]) -> usize {
+    let words = match doc.len() {
+        0..4 => 0,
+        _ => (string_index(doc) / 4).saturating_sub(1),
+    };
+    words.min(doc.len() / 4)
+}
+
+/// The offset of the string index by the header.
+pub(crate) fn string_index(doc: &[u8]) -> usize {
+    word(doc, 0) as usize >> 5
 }

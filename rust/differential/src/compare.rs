@@ -1,7 +1,11 @@
 //! Comparing answers of the proved readers with those of the plain ones, and running many seeds.
 
+use crate::binary_json::tree_words;
+use crate::random::Random;
 use crate::{exports, first_seed, hex};
+use documents::binary_json::Order;
 use std::fmt::Debug;
+use std::ops::Range;
 use std::thread;
 
 /// A document for a message: its length, and its bytes if they are not too many to read.
@@ -68,6 +72,59 @@ pub fn binary_json_at(seed: u64, doc: &[u8], at: u64, indices: &[u64], keys: &[V
     for key in keys {
         both!(seed, doc: quick_lookup(at, key), plain_scan(at, key));
     }
+}
+
+/// Checks a BinaryJson document with both readers, lent as many marks as its tree has words, more and fewer; compares
+/// every verdict and every mark. Answers the verdict with as many, or once in a while with one fewer.
+pub fn check_binary_json(seed: u64, random: &mut Random, doc: &[u8]) -> plain::Answer<()> {
+    let words = tree_words(doc);
+    let lent = [
+        words,
+        words.saturating_sub(1),
+        0,
+        words + 1 + random.below(8),
+        words + 4_000 + random.below(1_000),
+        random.below(2 * words + 2),
+    ];
+    let [enough, too_few, ..] = lent.map(|marks| check_with_marks(seed, random, doc, marks));
+    if random.once_in(10) { too_few } else { enough }
+}
+
+/// Checks it with so many marks, lent out of the middle of a buffer that holds noise.
+pub fn check_with_marks(
+    seed: u64,
+    random: &mut Random,
+    doc: &[u8],
+    marks: usize,
+) -> plain::Answer<()> {
+    let start = random.below(9);
+    let mut buffer = random.bytes(start + marks + 8);
+    let before = buffer.clone();
+    let mut other = buffer.clone();
+    let lent = start..start + marks;
+    let verdict = exports::binary_json::check(doc, &mut buffer[lent.clone()]);
+    let plainly = plain::binary_json::check(doc, &mut other[lent]);
+    same!(
+        doc,
+        verdict,
+        plainly,
+        "seed {seed} check with {marks} marks"
+    );
+    for (i, (mark, other)) in buffer.iter().zip(&other).enumerate() {
+        same!(
+            doc,
+            mark,
+            other,
+            "seed {seed} byte {i} of a buffer whose {marks} marks start at {start}"
+        );
+    }
+    let past = start + marks.min(tree_words(doc));
+    assert!(
+        buffer[..start] == before[..start] && buffer[past..] == before[past..],
+        "seed {seed}: of {marks} marks one was written that stands for no word of the tree\n{}",
+        shown(doc)
+    );
+    verdict
 }
 
 /// What the questions of an FJ document are lent beside it.
@@ -137,15 +194,23 @@ pub fn number(verdict: plain::Answer<()>) -> usize {
     verdict.map_or_else(|r| r.number as usize, |()| 0)
 }
 
-/// Runs `one` for so many seeds, on every processor, and counts the verdicts.
-pub fn for_all_seeds(count: u64, one: fn(u64) -> usize) -> Verdicts {
-    let first = first_seed();
-    let workers = thread::available_parallelism().map_or(1, |n| n.get() as u64);
+/// So many seeds, from the first on.
+pub fn seeds(count: u64) -> Range<u64> {
+    first_seed()..first_seed() + count
+}
+
+/// Runs `one` for all these seeds, on every processor, and counts the verdicts.
+pub fn for_all_seeds(
+    seeds: impl Iterator<Item = u64> + Clone + Send + 'static,
+    one: impl Fn(u64) -> usize + Copy + Send + 'static,
+) -> Verdicts {
+    let workers = thread::available_parallelism().map_or(1, |n| n.get());
     let runs: Vec<_> = (0..workers)
         .map(|w| {
+            let seeds = seeds.clone().skip(w).step_by(workers);
             thread::spawn(move || {
                 let mut verdicts = [0; 64];
-                for seed in (first + w..first + count).step_by(workers as usize) {
+                for seed in seeds {
                     verdicts[one(seed)] += 1;
                 }
                 verdicts
@@ -162,12 +227,26 @@ pub fn for_all_seeds(count: u64, one: fn(u64) -> usize) -> Verdicts {
     verdicts
 }
 
-/// Which of these verdicts did not come up; all that did are printed.
-pub fn missed(
+/// Runs `one` for so many seeds, a third of them in each order of containers, and counts the verdicts of each.
+pub fn for_each_order(count: u64, one: fn(u64, Order) -> usize) -> [(&'static str, Verdicts); 3] {
+    let run = |third, order: fn(u64) -> Order| {
+        let seeds = seeds(count).filter(move |seed| seed % 3 == third);
+        for_all_seeds(seeds, move |seed| one(seed, order(seed)))
+    };
+    [
+        ("depth first", run(0, |_| Order::DepthFirst)),
+        ("breadth first", run(1, |_| Order::BreadthFirst)),
+        ("shuffled", run(2, Order::Shuffled)),
+    ]
+}
+
+/// Prints which verdicts came up. If there were `enough` documents, these must have, or the run does not show enough.
+pub fn all_met(
     documents: &str,
     verdicts: &Verdicts,
-    numbers: impl Iterator<Item = usize>,
-) -> Vec<usize> {
+    numbers: impl IntoIterator<Item = usize>,
+    enough: bool,
+) {
     let met: Vec<String> = (1..verdicts.len())
         .filter(|&n| verdicts[n] > 0)
         .map(|n| format!("{n}: {}", verdicts[n]))
@@ -178,5 +257,11 @@ pub fn missed(
         verdicts[0],
         met.join(", ")
     );
-    numbers.filter(|&n| verdicts[n] == 0).collect()
+    let missed: Vec<usize> = (numbers.into_iter())
+        .filter(|&n| verdicts[n] == 0)
+        .collect();
+    assert!(
+        missed.is_empty() || !enough,
+        "{documents}: no document has the verdicts {missed:?}"
+    );
 }

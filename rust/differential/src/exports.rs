@@ -67,8 +67,18 @@ fn found(&[found, word]: &[u64; 2]) -> (Option<u64>, usize) {
 pub mod binary_json {
     use super::*;
 
-    pub fn check(doc: &[u8]) -> Answer<()> {
-        ask(|out| sys::bj_check(doc, out), |_: &[u64; 1]| ((), 0))
+    /// The check, with the marks lent.
+    pub fn check(doc: &[u8], marks: &mut [u8]) -> Answer<()> {
+        // too few words: nothing is written
+        let before = marks.to_vec();
+        assert_eq!(sys::bj_check(doc, marks, &mut []), sys::TOO_FEW);
+        assert!(marks == before, "marks were written with too few words");
+        let mut out = [BEFORE];
+        match (sys::bj_check(doc, marks, &mut out), out) {
+            (0, [BEFORE]) => Ok(()),
+            (0, _) => panic!("a word was written at acceptance"),
+            (number, [place]) => Err(Refusal { number, place }),
+        }
     }
 
     pub fn kind_and_size(doc: &[u8], tree: u64) -> Answer<(u64, u64)> {
@@ -272,8 +282,8 @@ pub mod timed {
     pub mod binary_json {
         use czubrotek_sys as sys;
 
-        pub fn check(doc: &[u8]) -> u32 {
-            sys::bj_check(doc, &mut [0; 1])
+        pub fn check(doc: &[u8], marks: &mut [u8]) -> u32 {
+            sys::bj_check(doc, marks, &mut [0; 1])
         }
 
         #[inline]

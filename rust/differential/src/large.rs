@@ -2,11 +2,13 @@
 //! small trees, chains about as deep as may be and empty containers, several of these beside each other.
 
 use crate::DEEPEST;
-use crate::binary_json::Pool;
+use crate::binary_json::{Pool, string_index};
+use crate::containers::spoil_containers;
 use crate::fractured_json::Writer;
 use crate::random::Random;
 use crate::spoil::spoil_at;
 use documents::Tree;
+use documents::binary_json::{Order, document_in};
 use documents::fractured_json::{ARRAY, Form, OBJECT};
 use std::mem;
 
@@ -177,8 +179,8 @@ impl Stock {
     }
 }
 
-/// A large BinaryJson document.
-pub fn binary_json(random: &mut Random) -> Vec<u8> {
+/// A large BinaryJson document in an order of containers.
+pub fn binary_json(random: &mut Random, order: Order) -> Vec<u8> {
     let bytes = size(random);
     let mut stock = Stock::new(random, bytes);
     let unused = match random.below(2) {
@@ -199,14 +201,18 @@ pub fn binary_json(random: &mut Random) -> Vec<u8> {
             Tree::Array(sections.collect())
         }
     };
-    let mut doc = documents::binary_json::document(&tree, &unused);
+    let mut doc = document_in(&tree, &unused, order);
     while doc.len() < LEAST {
         // numbers that nothing uses
         doc.extend(random.bits().to_le_bytes());
     }
+    if random.below(5) < 2 {
+        spoil_containers(random, &mut doc);
+        return doc;
+    }
     // more often in the tree than in what follows it
-    let tree = u32::from_le_bytes([doc[0], doc[1], doc[2], doc[3]]) >> 5;
-    spoilt(random, doc, tree as usize)
+    let tree = string_index(&doc);
+    spoilt(random, doc, tree)
 }
 
 impl Writer<'_> {

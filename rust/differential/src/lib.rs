@@ -4,6 +4,7 @@
 
 pub mod binary_json;
 pub mod compare;
+pub mod containers;
 pub mod exports;
 pub mod fractured_json;
 pub mod large;

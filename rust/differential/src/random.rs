@@ -29,6 +29,12 @@ impl Random {
         from[self.below(from.len())]
     }
 
+    /// So many bytes.
+    pub fn bytes(&mut self, len: usize) -> Vec<u8> {
+        let words = (0..len.div_ceil(8)).flat_map(|_| self.bits().to_le_bytes());
+        words.take(len).collect()
+    }
+
     /// A text of at most `most` bytes out of few letters, zero and FF among them, so that texts repeat and are prefixes.
     pub fn text(&mut self, most: usize) -> Vec<u8> {
         let len = self.below(most + 1);

@@ -1,20 +1,21 @@
-//! Every verdict, place and key-table word, and every question at every cursor, of the proved and the plain readers.
+//! Every verdict, place, mark and key-table word, and every question at every cursor, of the proved and the plain
+//! readers.
 
 use differential::compare::{
-    Lent, Verdicts, binary_json_at, check_fractured_json, for_all_seeds, fractured_json_at, missed,
-    number,
+    Lent, all_met, binary_json_at, check_binary_json, check_fractured_json, for_all_seeds,
+    for_each_order, fractured_json_at, number, seeds,
 };
+use differential::containers::spoil_containers;
 use differential::random::Random;
 use differential::spoil::spoil;
 use differential::{INDICES, LONGEST, both, cursors, documents, exports, same};
+use documents::binary_json::Order;
 
-/// A document of a seed: as made, or spoilt once or a few times.
-fn made(random: &mut Random, document: impl FnOnce(&mut Random) -> Vec<u8>) -> Vec<u8> {
-    let mut doc = document(random);
+/// Spoils a document not at all, once or a few times.
+fn spoil_by_chance(random: &mut Random, doc: &mut Vec<u8>) {
     for _ in 0..random.pick(&[0, 0, 1, 1, 1, 2, 4]) {
-        spoil(random, &mut doc);
+        spoil(random, doc);
     }
-    doc
 }
 
 /// The keys that are looked up: a few texts, and two parts of the document itself.
@@ -26,22 +27,24 @@ fn sought(random: &mut Random, doc: &[u8]) -> Vec<Vec<u8>> {
     keys
 }
 
-/// Every verdict of a format must have come up, or the documents do not show what they should.
-fn all_met(format: &str, verdicts: Verdicts, numbers: impl Iterator<Item = usize>) {
-    let missed = missed(format, &verdicts, numbers);
-    assert!(
-        missed.is_empty() || documents() < 100_000,
-        "{format}: no document was refused with {missed:?}"
-    );
+/// Whether there are documents enough to ask for every verdict.
+fn enough() -> bool {
+    documents() >= 100_000
 }
 
-fn binary_json(seed: u64) -> usize {
-    use exports::binary_json as proved;
-    use plain::binary_json as plain;
+fn binary_json(seed: u64, order: Order) -> usize {
     let random = &mut Random::new(seed);
-    let doc = &made(random, differential::binary_json::document);
-    let verdict = proved::check(doc);
-    same!(doc, verdict, plain::check(doc), "seed {seed} check");
+    let doc = &mut differential::binary_json::document(random, order);
+    if random.once_in(2) {
+        for _ in 0..random.pick(&[1, 1, 2, 3]) {
+            spoil_containers(random, doc);
+        }
+    }
+    if random.once_in(2) {
+        spoil_by_chance(random, doc);
+    }
+    let doc = &doc[..];
+    let verdict = check_binary_json(seed, random, doc);
     let keys = sought(random, doc);
     for at in cursors(doc.len()) {
         binary_json_at(seed, doc, at, &INDICES, &keys);
@@ -56,7 +59,9 @@ fn fractured_json(seed: u64) -> usize {
     let random = &mut Random::new(!seed);
     let names = make::names(random);
     let list = &make::list(random, &names)[..];
-    let doc = &made(random, |random| make::document(random, &names))[..];
+    let mut doc = make::document(random, &names);
+    spoil_by_chance(random, &mut doc);
+    let doc = &doc[..];
     both!(seed, list: check_list());
     let mut table = make::table(random);
     let checked = check_fractured_json(seed, doc, list, &mut table);
@@ -82,21 +87,18 @@ fn fractured_json(seed: u64) -> usize {
 
 #[test]
 fn binary_json_agrees() {
-    let verdicts = for_all_seeds(documents(), binary_json);
-    all_met("BinaryJson", verdicts, (0..=13).filter(|&n| n != 2));
+    for (order, verdicts) in for_each_order(documents(), binary_json) {
+        let format = format!("BinaryJson, {order}");
+        all_met(&format, &verdicts, (0..=15).filter(|&n| n != 2), enough());
+    }
 }
 
 #[test]
 fn fractured_json_agrees() {
-    let verdicts = for_all_seeds(documents(), fractured_json);
-    all_met(
-        "Fractured JSON",
-        verdicts,
-        [0].into_iter()
-            .chain(31..=43)
-            .chain(51..=54)
-            .filter(|&n| n != 32),
-    );
+    let verdicts = for_all_seeds(seeds(documents()), fractured_json);
+    let numbers = [0].into_iter().chain(31..=43).chain(51..=54);
+    let numbers = numbers.filter(|&n| n != 32);
+    all_met("Fractured JSON", &verdicts, numbers, enough());
 }
 
 /// Documents at the longest length and a few bytes more or less, with what matters at their very end.
@@ -138,11 +140,13 @@ fn longest_binary_json_agrees(doc: &mut [u8]) {
     doc[len - 9] = 0;
     doc[len - 8..].copy_from_slice(&number.to_le_bytes());
     let doc = &doc[..];
-    both!(len, doc: check(), number(8), string(12), slot(20), element(4, 1));
+    both!(len, doc: check(&mut [7; 4]), number(8), string(12), slot(20), element(4, 1));
+    let mut marks = [7; 4];
+    let verdict = proved::check(doc, &mut marks);
     if len > LONGEST {
-        assert_eq!(proved::check(doc), refused(2, len));
+        assert_eq!((verdict, marks), (refused(2, len), [7; 4]));
     } else {
-        assert_eq!(proved::check(doc), Ok(()));
+        assert_eq!((verdict, marks), (Ok(()), [1, 1, 1, 7]));
         assert_eq!(proved::number(doc, 8), Ok(number.to_bits()));
         assert_eq!(proved::string(doc, 12), Ok((24, len as u64 - 33)));
     }

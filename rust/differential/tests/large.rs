@@ -1,12 +1,15 @@
-//! Large documents: every verdict, place and key-table word, and every question at a sample of cursors, of the proved and the
-//! plain readers.
+//! Large documents: every verdict, place, mark and key-table word, and every question at a sample of cursors, of the
+//! proved and the plain readers.
 
 use differential::compare::{
-    Lent, Verdicts, binary_json_at, check_fractured_json, for_all_seeds, fractured_json_at, missed,
-    number,
+    Lent, Verdicts, all_met, binary_json_at, check_binary_json, check_fractured_json,
+    check_with_marks, for_all_seeds, for_each_order, fractured_json_at, number, seeds,
 };
+use differential::containers::spoil_containers;
 use differential::random::Random;
-use differential::{FAR, exports, fractured_json as small, large, large_documents, same};
+use differential::{FAR, LONGEST, fractured_json as small, large, large_documents};
+use documents::Tree;
+use documents::binary_json::{Order, document_in};
 use std::collections::BTreeSet;
 
 /// Where a document is asked, and for which keys.
@@ -109,13 +112,11 @@ fn down_fractured_json(
     }
 }
 
-fn binary_json(seed: u64) -> usize {
-    use exports::binary_json as proved;
+fn binary_json(seed: u64, order: Order) -> usize {
     use plain::binary_json as plain;
     let random = &mut Random::new(seed);
-    let doc = &large::binary_json(random);
-    let verdict = proved::check(doc);
-    same!(doc, verdict, plain::check(doc), "seed {seed} check");
+    let doc = &large::binary_json(random, order);
+    let verdict = check_binary_json(seed, random, doc);
     let mut sample = Sample::new(random, doc);
     for _ in 0..8 {
         down_binary_json(random, doc, &mut sample);
@@ -159,34 +160,99 @@ fn fractured_json(seed: u64) -> usize {
     number(checked.verdict)
 }
 
+/// Whether there are documents enough to ask for many verdicts.
+fn enough() -> bool {
+    large_documents() >= 400
+}
+
 /// At least a quarter of the documents must have been accepted, and these refusals must have come up.
-fn enough(format: &str, verdicts: Verdicts, refusals: &[usize]) {
-    let missed = missed(format, &verdicts, refusals.iter().copied());
-    if large_documents() < 400 {
-        return;
-    }
+fn quarter_accepted(format: &str, verdicts: &Verdicts, refusals: &[usize]) {
+    all_met(format, verdicts, refusals.iter().copied(), enough());
     assert!(
-        verdicts[0] >= large_documents() / 4,
+        verdicts[0] >= large_documents() / 4 || !enough(),
         "{format}: too few were accepted"
-    );
-    assert!(
-        missed.is_empty(),
-        "{format}: no document was refused with {missed:?}"
     );
 }
 
 #[test]
 fn large_binary_json_agrees() {
-    let verdicts = for_all_seeds(large_documents(), binary_json);
-    enough("Large BinaryJson", verdicts, &[4, 5, 7, 8, 9, 10, 11, 12]);
+    let mut all = [0; 64];
+    for (order, verdicts) in for_each_order(large_documents(), binary_json) {
+        let format = format!("Large BinaryJson, {order}");
+        all_met(&format, &verdicts, [0, 9, 13, 14, 15], enough());
+        for (all, some) in all.iter_mut().zip(verdicts) {
+            *all += some;
+        }
+    }
+    quarter_accepted("Large BinaryJson", &all, &[4, 5, 7, 8, 10, 11, 12]);
+}
+
+/// Documents of the longest length that are all tree, in each order of containers: as made, and spoilt.
+#[test]
+fn longest_trees_agree() {
+    // all but the header and the string count
+    let words = LONGEST / 4 - 2;
+    // each small tree takes eight words, one of them in the root
+    let array = Tree::Array;
+    let small = || array(vec![array(vec![]), array(vec![array(vec![])])]);
+    let mut items: Vec<Tree> = (0..(words - 1) / 8).map(|_| small()).collect();
+    items.extend((0..(words - 1) % 8).map(|_| Tree::Null));
+    let tree = array(items);
+    for order in [Order::DepthFirst, Order::BreadthFirst, Order::Shuffled(1)] {
+        let doc = document_in(&tree, &Tree::Null, order);
+        assert_eq!(doc.len(), LONGEST);
+        let random = &mut Random::new(0);
+        let mut check = |marks| number(check_with_marks(0, random, &doc, marks));
+        assert_eq!([check(words), check(words - 1)], [0, 15]);
+        let spoilt = seeds(8).map(|seed| {
+            let random = &mut Random::new(seed);
+            let mut doc = doc.clone();
+            spoil_containers(random, &mut doc);
+            number(check_with_marks(seed, random, &doc, words))
+        });
+        let verdicts: Vec<usize> = spoilt.collect();
+        println!("Longest trees, {order:?}: spoilt ones have the verdicts {verdicts:?}");
+    }
+}
+
+/// An array of nearly all words and an empty one: behind it and named in either order, with one word in both, with one
+/// in neither, and inside it.
+#[test]
+fn longest_bodies_agree() {
+    let nulls = LONGEST / 4 - 7;
+    let long = Tree::Array((0..nulls).map(|_| Tree::Null).collect());
+    let tree = Tree::Array(vec![long, Tree::Array(vec![])]);
+    let mut doc = document_in(&tree, &Tree::Null, Order::DepthFirst);
+    assert_eq!(doc.len(), LONGEST);
+    let last = doc.len() as u32 - 8;
+    let random = &mut Random::new(0);
+    // the places that the root names, the long one's elements and its first Entry
+    let mut check = |named: [u32; 2], elements: usize, first: u32| {
+        let words = [
+            5 + 32 * named[0],
+            5 + 32 * named[1],
+            32 * elements as u32,
+            first,
+        ];
+        let bytes = words.map(u32::to_le_bytes);
+        doc[8..24].copy_from_slice(bytes.as_flattened());
+        let verdict = check_with_marks(0, random, &doc, LONGEST / 4 - 2);
+        verdict.err().map(|r| (r.number, r.place as u32))
+    };
+    for named in [[16, last], [last, 16]] {
+        assert_eq!(check(named, nulls, 2), None);
+        assert_eq!(check(named, nulls + 1, 2), Some((14, named[1])));
+        assert_eq!(check(named, nulls - 1, 2), Some((13, last - 4)));
+    }
+    assert_eq!(check([20, 16], nulls, 0), Some((14, 16)));
 }
 
 #[test]
 fn large_fractured_json_agrees() {
-    let verdicts = for_all_seeds(large_documents(), fractured_json);
-    enough(
+    let verdicts = for_all_seeds(seeds(large_documents()), fractured_json);
+    quarter_accepted(
         "Large Fractured JSON",
-        verdicts,
+        &verdicts,
         &[35, 36, 38, 39, 40, 41, 42],
     );
 }

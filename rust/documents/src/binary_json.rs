@@ -1,7 +1,18 @@
-//! A tree as BinaryJson: header, containers depth first, string index, texts, numbers.
+//! A tree as BinaryJson: header, containers in an order that is asked for, string index, texts, numbers.
 
 use crate::Tree;
-use std::collections::{BTreeSet, HashMap};
+use std::collections::{BTreeSet, HashMap, VecDeque};
+
+/// The order in which containers stand: the root first, and each after its parent.
+#[derive(Clone, Copy, Debug)]
+pub enum Order {
+    /// All that is below a container stands before its next sibling.
+    DepthFirst,
+    /// All of a level stand before those of the next.
+    BreadthFirst,
+    /// Next is always any whose parent stands already, by this seed.
+    Shuffled(u64),
+}
 
 /// Where things stand in the document.
 struct Layout<'a> {
@@ -41,19 +52,27 @@ fn word(low: u32, high: usize) -> [u8; 4] {
     (low | (high as u32) << 5).to_le_bytes()
 }
 
-/// The Entry of a value; `due` is where its container starts, if it is one.
-fn entry(layout: &Layout, tree: &Tree, due: usize) -> [u8; 4] {
+/// The Entry of a value; that of a container names no place yet.
+fn entry(layout: &Layout, tree: &Tree) -> [u8; 4] {
     match tree {
         Tree::Bool(b) => word(u32::from(*b), 0),
         Tree::Null => word(2, 0),
         Tree::Text(text) => word(3, layout.slots[&text[..]]),
         Tree::Number(bits) => word(4, layout.numbers[bits]),
-        Tree::Array(_) | Tree::Object(_) => word(5, due),
+        Tree::Array(_) | Tree::Object(_) => word(5, 0),
     }
 }
 
-/// A container and all below it; a child is due where the document ends when its Entry is written.
-fn put_container(doc: &mut Vec<u8>, layout: &Layout, tree: &Tree) {
+/// Containers that do not stand yet, each with the offset of the Entry that is to name it.
+type Waiting<'a> = VecDeque<(usize, &'a Tree)>;
+
+/// A container's Meta and body; its children wait behind the others.
+fn put_container<'a>(
+    doc: &mut Vec<u8>,
+    layout: &Layout,
+    tree: &'a Tree,
+    waiting: &mut Waiting<'a>,
+) {
     let n = tree.children().count();
     doc.extend(word(u32::from(matches!(tree, Tree::Object(_))), n));
     if let Tree::Object(members) = tree {
@@ -61,19 +80,43 @@ fn put_container(doc: &mut Vec<u8>, layout: &Layout, tree: &Tree) {
             doc.extend((layout.slots[&key[..]] as u32).to_le_bytes());
         }
     }
-    let first = doc.len();
-    doc.resize(first + 4 * n, 0);
-    for (i, child) in tree.children().enumerate() {
-        let entry = entry(layout, child, doc.len());
-        doc[first + 4 * i..][..4].copy_from_slice(&entry);
+    for child in tree.children() {
         if child.is_container() {
-            put_container(doc, layout, child);
+            waiting.push_back((doc.len(), child));
+        }
+        doc.extend(entry(layout, child));
+    }
+}
+
+/// All containers, from the root on.
+fn put_containers(doc: &mut Vec<u8>, layout: &Layout, root: &Tree, mut order: Order) {
+    let mut waiting = Waiting::new();
+    put_container(doc, layout, root, &mut waiting);
+    while !waiting.is_empty() {
+        if let Order::Shuffled(seed) = &mut order {
+            *seed = seed.wrapping_mul(6_364_136_223_846_793_005).wrapping_add(1);
+            let any = (*seed >> 33) as usize % waiting.len();
+            waiting.swap(0, any);
+        }
+        let (entry, tree) = waiting.pop_front().expect("one waits");
+        let named = word(5, doc.len());
+        doc[entry..][..4].copy_from_slice(&named);
+        let others = waiting.len();
+        put_container(doc, layout, tree, &mut waiting);
+        if let Order::DepthFirst = order {
+            // its children come first
+            waiting.rotate_left(others);
         }
     }
 }
 
-/// The document of a tree; `unused` texts and numbers stand beside those that it uses.
+/// The document of a tree, depth first; `unused` texts and numbers stand beside those that it uses.
 pub fn document(tree: &Tree, unused: &Tree) -> Vec<u8> {
+    document_in(tree, unused, Order::DepthFirst)
+}
+
+/// The same in any order of containers.
+pub fn document_in(tree: &Tree, unused: &Tree, order: Order) -> Vec<u8> {
     let (mut texts, mut numbers) = (BTreeSet::new(), BTreeSet::new());
     gather(tree, &mut texts, &mut numbers);
     gather(unused, &mut texts, &mut numbers);
@@ -95,10 +138,10 @@ pub fn document(tree: &Tree, unused: &Tree) -> Vec<u8> {
     let mut doc = Vec::new();
     doc.extend(word(1, index));
     if tree.is_container() {
-        put_container(&mut doc, &layout, tree);
+        put_containers(&mut doc, &layout, tree, order);
     } else {
         doc.extend(word(2, 1));
-        doc.extend(entry(&layout, tree, 0));
+        doc.extend(entry(&layout, tree));
     }
     doc.extend((texts.len() as u32).to_le_bytes());
     let mut past = first;

@@ -16,23 +16,31 @@ const ARRAY: u32 = 0;
 const OBJECT: u32 = 1;
 const SCALAR: u32 = 2;
 
-// Types of an Entry.
-const FALSE: u32 = 0;
-const TRUE: u32 = 1;
+// Types of an Entry; 0 false, 1 true and 2 null ignore the value field.
 const NULL: u32 = 2;
 const STRING: u32 = 3;
 const NUMBER: u32 = 4;
 const CONTAINER: u32 = 5;
 
-/// Checks the whole document by rules 1 to 13.
-pub fn check(doc: &[u8]) -> Answer<()> {
+/// Checks the whole document by rules 1 to 15. The caller lends one mark for each word of the tree,
+/// mark k for the word at 4+4k; a quarter of the document's length is always enough. Once 7 and 15 are
+/// passed, these marks are 1 for the words of the bodies marked and 0 for all others, refused or not;
+/// before that, and beyond them, the marks stay.
+pub fn check(doc: &[u8], marks: &mut [u8]) -> Answer<()> {
     let layout = Layout::read(doc)?;
     layout.check_strings()?;
-    let tree_end = layout.check_container(ROOT, 1)?;
-    if tree_end < layout.tree.len() {
-        return Err(Refusal::new(13, tree_end));
-    }
-    Ok(())
+    let string_index = layout.tree.len();
+    let marks = marks
+        .get_mut(..mark_of(string_index))
+        .ok_or(Refusal::new(15, string_index))?;
+    marks.fill(0);
+    let mut walker = Walker {
+        layout,
+        marks,
+        marked: 0,
+    };
+    walker.container(ROOT, 1)?;
+    walker.whole_tree()
 }
 
 /// Kind (0 array, 1 object, 2 top-level scalar) and size of the container at `tree`.
@@ -188,6 +196,25 @@ fn word_at(area: &[u8], offset: usize) -> Option<[u8; WORD]> {
     area.get(offset..)?.first_chunk().copied()
 }
 
+/// Which mark stands for the word of the tree at an offset.
+fn mark_of(offset: usize) -> usize {
+    (offset - ROOT) / WORD
+}
+
+/// Marks the words of a body, unless one of them is marked already; says whether it did.
+fn mark_body(body: &mut [u8]) -> bool {
+    // One pass tests and marks; if a mark was set, another takes all of it back.
+    let mut met = 0;
+    for mark in body.iter_mut() {
+        met |= *mark;
+        *mark += 1;
+    }
+    if met != 0 {
+        body.iter_mut().for_each(|mark| *mark -= 1);
+    }
+    met == 0
+}
+
 /// Splits a word into its lowest five bits and the 27 bits above them.
 fn split(word: [u8; WORD]) -> (u32, usize) {
     let word = from_word(word);
@@ -273,49 +300,6 @@ impl<'d> Layout<'d> {
         Ok(())
     }
 
-    /// Rules 8 to 12 for the container at `at` and all below it, after 5 to 7 have been passed;
-    /// answers where its subtree ends.
-    fn check_container(&self, at: usize, depth: u32) -> Answer<usize> {
-        if depth > MAX_DEPTH {
-            return Err(Refusal::new(12, at));
-        }
-        let container = self
-            .body(at)
-            .filter(|c| c.kind <= SCALAR)
-            .filter(|c| c.kind != SCALAR || (depth == 1 && c.size == 1))
-            .ok_or(Refusal::new(8, at))?;
-
-        let mut previous = 0; // the header's offset, before any slot
-        for (j, &key_entry) in container.key_entries.iter().enumerate() {
-            let slot = from_word(key_entry) as usize;
-            if self.slot_index(slot).is_none() || slot <= previous {
-                return Err(Refusal::new(11, at + WORD + WORD * j));
-            }
-            previous = slot;
-        }
-
-        let mut due = container.end();
-        for (i, &entry) in container.entries.iter().enumerate() {
-            let place = container.entries_at + WORD * i;
-            let (entry_type, value) = split(entry);
-            match entry_type {
-                FALSE | TRUE | NULL => {}
-                STRING if self.slot_index(value).is_some() => {}
-                NUMBER => {
-                    let bits = self.number(value).ok_or(Refusal::new(9, place))?;
-                    if !f64::from_bits(bits).is_finite() {
-                        return Err(Refusal::new(10, place));
-                    }
-                }
-                CONTAINER if container.kind != SCALAR && value == due => {
-                    due = self.check_container(due, depth + 1)?;
-                }
-                _ => return Err(Refusal::new(9, place)),
-            }
-        }
-        Ok(due)
-    }
-
     /// The container whose Meta stands at `at`, unless its Meta or body passes S; the body of a kind
     /// other than object is measured as an array's.
     fn body(&self, at: usize) -> Option<Container<'d>> {
@@ -393,6 +377,80 @@ impl<'d> Layout<'d> {
         }
         let bytes = self.doc.get(offset..)?.first_chunk()?;
         Some(u64::from_le_bytes(*bytes))
+    }
+}
+
+/// Walks the containers of a document that has passed 5 to 7 and 15.
+struct Walker<'d, 'm> {
+    layout: Layout<'d>,
+    /// One for each word of the tree: 1 for the words of the bodies marked, 0 for all others.
+    marks: &'m mut [u8],
+    /// How many of them are 1.
+    marked: usize,
+}
+
+impl Walker<'_, '_> {
+    /// Walks the container at `at` and all below it. Order: 12, 8, 14, marking, 11 for the KeyEntries,
+    /// then 9 and 10 for the Entries, each child finished before the next Entry.
+    fn container(&mut self, at: usize, depth: u32) -> Answer<()> {
+        if depth > MAX_DEPTH {
+            return Err(Refusal::new(12, at));
+        }
+        let container = self
+            .layout
+            .body(at)
+            .filter(|c| c.kind <= SCALAR)
+            .filter(|c| c.kind != SCALAR || (depth == 1 && c.size == 1))
+            .ok_or(Refusal::new(8, at))?;
+
+        let body = &mut self.marks[mark_of(at)..mark_of(container.end())];
+        if !mark_body(body) {
+            return Err(Refusal::new(14, at));
+        }
+        self.marked += body.len();
+
+        let mut previous = self.layout.tree.len(); // the count's offset, before any slot
+        for (j, &key_entry) in container.key_entries.iter().enumerate() {
+            let slot = from_word(key_entry) as usize;
+            if slot <= previous || slot >= self.layout.texts || !slot.is_multiple_of(WORD) {
+                return Err(Refusal::new(11, at + WORD + WORD * j));
+            }
+            previous = slot;
+        }
+
+        for (i, &entry) in container.entries.iter().enumerate() {
+            let place = container.entries_at + WORD * i;
+            let (entry_type, value) = split(entry);
+            if entry_type <= NULL {
+                continue; // ahead of the match, which becomes a jump table
+            }
+            match entry_type {
+                STRING if self.layout.slot_index(value).is_some() => {}
+                NUMBER => {
+                    let bits = self.layout.number(value).ok_or(Refusal::new(9, place))?;
+                    if !f64::from_bits(bits).is_finite() {
+                        return Err(Refusal::new(10, place));
+                    }
+                }
+                CONTAINER
+                    if container.kind != SCALAR && value > at && value.is_multiple_of(WORD) =>
+                {
+                    self.container(value, depth + 1)?;
+                }
+                _ => return Err(Refusal::new(9, place)),
+            }
+        }
+        Ok(())
+    }
+
+    /// 13 at the first word that is not marked, after the walk.
+    fn whole_tree(&self) -> Answer<()> {
+        // No word was marked twice, so their number tells whether one is left.
+        if self.marked == self.marks.len() {
+            return Ok(());
+        }
+        let before = self.marks.iter().take_while(|&&mark| mark != 0).count();
+        Err(Refusal::new(13, ROOT + WORD * before))
     }
 }
 

@@ -1,12 +1,17 @@
 //! The tests: all rows of the rulings, the papers' specimens and run list, key lists, and laws of all
 //! answers.
 
+mod oracle;
+
 use std::fmt::Write;
 
 use plain::{Answer, Refusal, binary_json, fractured_json};
 
 /// What a lent word holds before the check, so that a word written by mistake is seen.
 const UNTOUCHED: u32 = 0xDEAD_BEEF;
+
+/// What a lent mark holds before the check.
+const NOISE: u8 = 0xA5;
 
 /// A key list without names.
 const NO_NAMES: &[u8] = &[0, 0, 0];
@@ -16,6 +21,9 @@ const LONGEST: usize = 16_777_216;
 
 /// How deep containers may nest.
 const DEEPEST: usize = 64;
+
+/// The rows of the rulings, as the program `rulings` reads them.
+const RULINGS: &str = include_str!("../../../crates/rulings/stdin");
 
 fn from_hex(hex: &str) -> Vec<u8> {
     if hex == "-" {
@@ -62,12 +70,30 @@ fn put_text(doc: &[u8], answer: Answer<(u64, u64)>) -> String {
     to_hex(&doc[place as usize..(place + length) as usize])
 }
 
+/// The check with marks enough, all noise before; verdict and marks are those of the oracle.
+fn bj_check(doc: &[u8]) -> Answer<()> {
+    let noise = vec![NOISE; doc.len() / 4];
+    let mut marks = noise.clone();
+    let verdict = binary_json::check(doc, &mut marks);
+    assert_eq!((verdict, marks), oracle::check(doc, &noise));
+    verdict
+}
+
+/// The check put as the rulings put it, with the marks afterwards if a row lends its own.
+fn binary_json_check(doc: &[u8], lent: Option<Vec<u8>>) -> String {
+    let ok = |()| "ok".to_string();
+    let Some(mut marks) = lent else {
+        return put(bj_check(doc), ok);
+    };
+    let verdict = put(binary_json::check(doc, &mut marks), ok);
+    format!("{verdict} marks={}", to_hex(&marks))
+}
+
 fn binary_json_answer(doc: &[u8], question: &str, args: &[&str]) -> String {
     use binary_json::*;
     let number_arg = |i: usize| args[i].parse::<u64>().unwrap();
     let text_arg = |i: usize| from_hex(args[i]);
     match question {
-        "check" => put(check(doc), |()| "ok".to_string()),
         "kind_and_size" => put_two(kind_and_size(doc, number_arg(0))),
         "element" => put_one(element(doc, number_arg(0), number_arg(1))),
         "member" => put_two(member(doc, number_arg(0), number_arg(1))),
@@ -179,10 +205,11 @@ fn answer_of_row(row: &str) -> String {
     let format = fields.next().unwrap();
     let doc = from_hex(fields.next().unwrap());
     let mut list = NO_NAMES.to_vec();
-    let (mut words, mut table, mut count) = (None, None, 0);
+    let (mut marks, mut words, mut table, mut count) = (None, None, None, 0);
     while let Some((name, value)) = fields.peek().and_then(|field| field.split_once('=')) {
         match name {
             "list" => list = from_hex(value),
+            "marks" => marks = Some(from_hex(value)),
             "words" => words = Some(value.parse::<usize>().unwrap()),
             "table" => table = Some(value.split(',').map(|w| w.parse().unwrap()).collect()),
             "count" => count = value.parse().unwrap(),
@@ -196,7 +223,10 @@ fn answer_of_row(row: &str) -> String {
     let question = fields.next().unwrap();
     let args: Vec<&str> = fields.collect();
     if format == "B" {
-        return binary_json_answer(&doc, question, &args);
+        return match question {
+            "check" => binary_json_check(&doc, marks),
+            _ => binary_json_answer(&doc, question, &args),
+        };
     }
     // Without further words, a check has a table of 4,096 keys and a question an empty one.
     let mut table: Vec<u32> = match table {
@@ -213,17 +243,16 @@ fn answer_of_row(row: &str) -> String {
 #[test]
 fn rulings() {
     let mut wrong = Vec::new();
-    let mut rows = 0;
-    for row in include_str!("../../../crates/rulings/stdin").lines() {
-        let (asked, expected) = row.rsplit_once(" = ").unwrap();
+    for row in RULINGS.lines() {
+        let without_remark = row.split(" ; ").next().unwrap();
+        let (asked, expected) = without_remark.rsplit_once(" = ").unwrap();
         let answer = answer_of_row(asked);
         if answer != expected {
             wrong.push(format!("{row}\n  answered {answer}"));
         }
-        rows += 1;
     }
     assert!(wrong.is_empty(), "{}", wrong.join("\n"));
-    assert_eq!(rows, 223);
+    assert_eq!(RULINGS.lines().count(), 243);
 }
 
 #[test]
@@ -705,18 +734,18 @@ fn longest_documents() {
     let mut doc = binary_json_document(&[word(0, 0)], &[b"abc"], &[]);
     assert_eq!(doc.len(), 20);
     doc.resize(LONGEST + 4, 0);
-    assert_eq!(binary_json::check(&doc), refuse(2, LONGEST as u64 + 4));
-    assert_eq!(binary_json::check(&doc[..LONGEST + 1]), over);
-    assert_eq!(binary_json::check(&doc[..LONGEST]), refuse(7, 20));
-    assert_eq!(binary_json::check(&doc[..LONGEST - 4]), Ok(()));
+    assert_eq!(bj_check(&doc), refuse(2, LONGEST as u64 + 4));
+    assert_eq!(bj_check(&doc[..LONGEST + 1]), over);
+    assert_eq!(bj_check(&doc[..LONGEST]), refuse(7, 20));
+    assert_eq!(bj_check(&doc[..LONGEST - 4]), Ok(()));
     let mut doc = binary_json_document(&[word(0, 0)], &[b"abcdefg"], &[]);
     doc.resize(LONGEST + 1, 0);
-    assert_eq!(binary_json::check(&doc), over);
+    assert_eq!(bj_check(&doc), over);
     assert_eq!(
         binary_json::kind_and_size(&doc, 4),
         refuse(2, LONGEST as u64 + 1)
     );
-    assert_eq!(binary_json::check(&doc[..LONGEST]), Ok(()));
+    assert_eq!(bj_check(&doc[..LONGEST]), Ok(()));
     assert_eq!(binary_json::kind_and_size(&doc[..LONGEST], 4), Ok((0, 0)));
 
     // FJ: one string with a 32-bit length.
@@ -841,7 +870,7 @@ fn far_slots_and_numbers() {
     tree.extend((0..n).map(|k| word(4, number(k))));
     let doc = binary_json_document(&tree, &texts, &numbers);
     assert_eq!(doc.len() as u32, number(n));
-    assert_eq!(binary_json::check(&doc), Ok(()));
+    assert_eq!(bj_check(&doc), Ok(()));
 
     let object = u64::from(object);
     let entry = object + 4 + 4 * u64::from(n);
@@ -873,7 +902,7 @@ fn far_slots_and_numbers() {
         for (byte, changed) in doc[at as usize..].iter_mut().zip(bytes) {
             *byte ^= changed;
         }
-        binary_json::check(&doc)
+        bj_check(&doc)
     };
     let (key_entry, last) = (entry - 4, entry + 4 * u64::from(n) - 4);
     assert_eq!(spoilt(key_entry as u32, &[4]), refuse(11, key_entry));
@@ -897,16 +926,13 @@ fn deepest_documents() {
             tree.push(word(0, 1));
             tree.push(word(5, 4 + 8 * level));
         }
-        // The last container, and none where one is due: 12 comes before 8.
+        // The last container, and none where one is named: 12 comes before 8.
         assert_eq!(
-            binary_json::check(&binary_json_document(&tree, &[], &[])),
+            bj_check(&binary_json_document(&tree, &[], &[])),
             verdict.and(refuse(8, 4 + 8 * (depth as u64 - 1)))
         );
         tree.push(word(0, 0));
-        assert_eq!(
-            binary_json::check(&binary_json_document(&tree, &[], &[])),
-            verdict
-        );
+        assert_eq!(bj_check(&binary_json_document(&tree, &[], &[])), verdict);
     }
     let over = refuse(41, 3 + DEEPEST as u64);
     for (depth, verdict) in [(DEEPEST, Ok(())), (DEEPEST + 1, over)] {
@@ -959,7 +985,7 @@ fn strings_of_87_and_88_bytes() {
     for length in [87_u64, 88] {
         let content = &text[..length as usize];
         let doc = binary_json_document(&[word(0, 1), word(3, 16)], &[content], &[]);
-        assert_eq!(binary_json::check(&doc), Ok(()));
+        assert_eq!(bj_check(&doc), Ok(()));
         assert_eq!(binary_json::string(&doc, 8), Ok((20, length)));
     }
 }
@@ -1075,7 +1101,7 @@ fn empty_documents_and_far_cursors() {
         u64::MAX - 3,
         u64::MAX,
     ];
-    assert_eq!(binary_json::check(&[]), refuse(1, 0));
+    assert_eq!(bj_check(&[]), refuse(1, 0));
     assert_eq!(fj_check(&[], NO_NAMES, 2).0.verdict, refuse(31, 0));
     let array = from_hex("010100000000000000000000");
     let objects = from_hex("464A01A06F0461006F57DF");
@@ -1153,7 +1179,7 @@ impl Random {
 
 /// Documents of the rulings in one format.
 fn ruling_documents(format: &str) -> Vec<Vec<u8>> {
-    let mut documents: Vec<_> = include_str!("../../../crates/rulings/stdin")
+    let mut documents: Vec<_> = RULINGS
         .lines()
         .filter_map(|row| row.strip_prefix(format)?.split_whitespace().next())
         .map(from_hex)
@@ -1172,7 +1198,7 @@ fn spoilt_binary_json() {
     let mut accepted = 0;
     for _ in 0..20_000 {
         let doc = random.spoil(&documents[random.0 as usize % documents.len()]);
-        let good = check(&doc).is_ok();
+        let good = bj_check(&doc).is_ok();
         accepted += u32::from(good);
         let texts: Vec<&[u8]> = (0..doc.len() as u64)
             .filter_map(|offset| slot(&doc, offset).ok())

@@ -30,6 +30,9 @@ returns c = search check-laws
 returns-2 : tie.Need-returns-2
 returns-2 c = search check-laws
 
+same-length : tie.Need-same-length
+same-length c = search needs
+
 returns-3 : tie.Need-returns-3
 returns-3 c = search needs
 
@@ -46,4 +49,5 @@ check-spec =
     check-tree-requires
     returns
     returns-2
+    same-length
     returns-3)

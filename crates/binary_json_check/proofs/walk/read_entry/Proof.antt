@@ -48,6 +48,9 @@ returns-8 c = search entry-laws
 returns-9 : tie.Need-returns-9
 returns-9 c = search entry-laws
 
+returns-10 : tie.Need-returns-10
+returns-10 c = search entry-laws
+
 pub read-entry-spec : {M : Type 1} → statement M
 read-entry-spec =
     tie.close
@@ -66,4 +69,5 @@ read-entry-spec =
     returns-6
     returns-7
     returns-8
-    returns-9)
+    returns-9
+    returns-10)
