@@ -38,37 +38,6 @@ where-is o w k = by (wordPlace k) refl
     by : (p : ℕ) → p ≡ wordPlace k → Where o w k
     by p q = go p q (leb o p) (ltb p (o + 4 * w)) refl refl (leb→le o p) (nleb→lt o p) (ltb→lt p (o + 4 * w)) (nltb→le p (o + 4 * w))
 
-within-zero : (o k : ℕ) → within o 0 k ≡ 0
-within-zero o k = go (where-is o 0 k)
-  where
-    go : Where o 0 k → within o 0 k ≡ 0
-    go (before h e) = e
-    go (in-it h g e) = absurd (omega arith)
-    go (past h e) = e
-
--- one word, and the others
-within-suc : (o w k : ℕ) → within o (suc w) k ≡ within o 1 k + within (o + 4) w k
-within-suc o w k = go (where-is o (suc w) k) (where-is o 1 k) (where-is (o + 4) w k)
-  where
-    go : Where o (suc w) k → Where o 1 k → Where (o + 4) w k → within o (suc w) k ≡ within o 1 k + within (o + 4) w k
-    go (before a e) (before b f) (before c g) = omega arith
-    go (before a e) (before b f) (in-it c c′ g) = absurd (omega arith)
-    go (before a e) (before b f) (past c g) = omega arith
-    go (before a e) (in-it b b′ f) z = absurd (omega arith)
-    go (before a e) (past b f) z = absurd (omega arith)
-    go (in-it a a′ e) (before b f) z = absurd (omega arith)
-    go (in-it a a′ e) (in-it b b′ f) (before c g) = omega arith
-    go (in-it a a′ e) (in-it b b′ f) (in-it c c′ g) = absurd (omega arith)
-    go (in-it a a′ e) (in-it b b′ f) (past c g) = omega arith
-    go (in-it a a′ e) (past b f) (before c g) = absurd (omega arith)
-    go (in-it a a′ e) (past b f) (in-it c c′ g) = omega arith
-    go (in-it a a′ e) (past b f) (past c g) = absurd (omega arith)
-    go (past a e) (before b f) z = absurd (omega arith)
-    go (past a e) (in-it b b′ f) z = absurd (omega arith)
-    go (past a e) (past b f) (before c g) = omega arith
-    go (past a e) (past b f) (in-it c c′ g) = absurd (omega arith)
-    go (past a e) (past b f) (past c g) = omega arith
-
 -- ---- marks set
 
 pub fill-length : (ms : List ℕ) (j w v : ℕ) → length (fill ms j w v) ≡ length ms
