@@ -30,6 +30,8 @@ def modules():
 DEF = re.compile(
     r"^\s*(?:(?:abbrev|unfoldable|pub|data|record)\s+)*(" + WORD + r"+)(?:\s*[({][^=]*[)}])*\s*:(?:\s|$)"
 )
+MANY = re.compile(r"^\s+(?:pub\s+)?([a-z]" + WORD + r"*(?: [a-z]" + WORD + r"*)+) : ")
+KEYWORDS = {"pub", "abbrev", "unfoldable", "data", "record"}
 RULESET = re.compile(r"^\s*(?:pub\s+)?ruleset\s+(" + WORD + r"+)")
 
 
@@ -43,6 +45,10 @@ def defined():
                 m = DEF.match(line) or RULESET.match(line)
                 if m:
                     names.setdefault(m.group(1), set()).add(f)
+                m = MANY.match(line)
+                for n in m.group(1).split() if m else []:
+                    if n not in KEYWORDS:
+                        names.setdefault(n, set()).add(f)
     return names
 
 

@@ -1,5 +1,7 @@
 // A reader of BinaryJson: the check, the questions and both lookups. Each is proved equal to its rule in
 // `binary_json_rules`; the crate `claims` says what that makes of their answers.
+#![tactic(auto)]
+
 pub use binary_json_answers::{Bits, Looked, MemberAt, Scanned, Sized, Span, TreeAt, Typed};
 pub use binary_json_areas::offsets::{NumberOffset, SlotOffset, TreeOffset};
 pub use binary_json_check::check;

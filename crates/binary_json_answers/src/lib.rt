@@ -1,4 +1,6 @@
 // The answers to the questions and lookups of BinaryJson. specs/Told.antt gives each case its number and values.
+#![tactic(auto)]
+
 use binary_json_areas::offsets::{SlotOffset, TreeOffset};
 use json_model::Refusal;
 

@@ -13,7 +13,7 @@ use Rattle.json_model.specs.Reading.{Outcome, halt, done, Reading, refuse, ask, 
 use Rattle.json_model.specs.declared.Refusal.{Refusal}
 use Rattle.json_model.specs.declared.Verdict.{Verdict}
 use Rattle.json_model.proofs.Reading.{eq→eqb, over, past, unlike, then, stops, pass, fail, carry}
-use Rattle.binary_json_rules.specs.Areas.{word, low, high, index, count, slot, kArray, kObject, kind_of, type_of}
+use Rattle.binary_json_rules.specs.Areas.{word, low, high, index, count, slot, k_array, k_object, kind_of, type_of}
 use Rattle.binary_json_rules.specs.Verdict.{slot_named, key_entries, entry_by, entry, entries, mark_body, container_by, container, scalar, root_by}
 use Rattle.binary_json_rules.specs.Marks.{words, word_at, clear}
 use Rattle.binary_json_theorems.proofs.Carried.{carry_slot_named, carry_number_named, carry_keys}
@@ -257,7 +257,7 @@ object_room doc a o n ms x l m i = let e = x.framed.index_is in omega arith
 
 module _ (doc : List ℕ) (a : Areas) (x : Laid doc a) (o n : ℕ) (ms : List ℕ) (l : o + 4 ≤ a.index) (ns : n ≡ high doc o) where
   module _ (k0 : low doc o ≡ 0) where
-    array_by : (child : ℕ → Reading (List ℕ) (Unit {0})) → container_by doc child o n kArray ms ≡ container_with doc o child ms
+    array_by : (child : ℕ → Reading (List ℕ) (Unit {0})) → container_by doc child o n k_array ms ≡ container_with doc o child ms
     unfolding container_with kind_of
     array_by child = sym (pass _ _ _ _ ms (le→leb _ _ (rw x.framed.index_is at l)) ∙ rw (k0, sym ns))
 
@@ -275,7 +275,7 @@ module _ (doc : List ℕ) (a : Areas) (x : Laid doc a) (o n : ℕ) (ms : List �
       array_met e child = sym (pass _ _ _ _ ms (le→leb _ _ (rw x.framed.index_is at q)) ∙ stops _ _ ms (sym m ∙ ap (λ y. told_mark o y after) e)) ∙ array_by child
 
   module _ (k1 : low doc o ≡ 1) where
-    object_by : (child : ℕ → Reading (List ℕ) (Unit {0})) → container_by doc child o n kObject ms ≡ container_with doc o child ms
+    object_by : (child : ℕ → Reading (List ℕ) (Unit {0})) → container_by doc child o n k_object ms ≡ container_with doc o child ms
     unfolding container_with kind_of
     object_by child = sym (pass _ _ _ _ ms (le→leb _ _ (rw x.framed.index_is at l)) ∙ rw (k1, sym ns))
 

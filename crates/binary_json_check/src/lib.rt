@@ -1,5 +1,7 @@
 // The BinaryJson check: refusals 1 to 15 with their places, in one pass, with a mark lent for each word of the tree.
 // Containers are walked by calls, with the levels left falling; slots, KeyEntries and Entries by loops.
+#![tactic(auto)]
+
 mod marks;
 mod strings;
 mod walk;

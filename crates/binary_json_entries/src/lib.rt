@@ -1,6 +1,8 @@
 // The questions at an Entry and at a slot, each on lent bytes and a cursor, right even where nobody checked. What a
 // question asks after its opening is a function of its own (`.._here`), given the areas that the opening found, for
 // walks that open once.
+#![tactic(auto)]
+
 ghost use Rattle.std.specs.Prelude.{◌≡◌};
 ghost use Rattle.json_model.specs.Reading.{ask};
 ghost use Rattle.json_model.specs.Span.{spanned};

@@ -1,5 +1,7 @@
 // The questions at a Meta, each on lent bytes and a cursor, right even where nobody checked. What a question asks after
 // its opening is a function of its own (`.._here`), given the areas that the opening found, for walks that open once.
+#![tactic(auto)]
+
 ghost use Rattle.std.specs.Prelude.{◌≡◌};
 ghost use Rattle.json_model.specs.Reading.{ask};
 ghost use Rattle.binary_json_rules.specs.Questions.{kind_here, kind_and_size, element_here, element, member_here, member_at};

@@ -44,22 +44,22 @@ numbers doc = text doc (count doc)
 -- ---- the kinds of a Meta and the types of an Entry
 
 pub data Kind : Type 0 where
-  kArray kObject kScalar kOther : Kind
+  k_array k_object k_scalar k_other : Kind
 
 unfoldable pub kind_of : ℕ → Kind
-kind_of zero = kArray
-kind_of (suc zero) = kObject
-kind_of (suc (suc zero)) = kScalar
-kind_of (suc (suc (suc n))) = kOther
+kind_of zero = k_array
+kind_of (suc zero) = k_object
+kind_of (suc (suc zero)) = k_scalar
+kind_of (suc (suc (suc n))) = k_other
 
 pub data EntryType : Type 0 where
-  tFalse tTrue tNull tString tNumber tContainer tOther : EntryType
+  t_false t_true t_null t_string t_number t_container t_other : EntryType
 
 unfoldable pub type_of : ℕ → EntryType
-type_of zero = tFalse
-type_of (suc zero) = tTrue
-type_of (suc (suc zero)) = tNull
-type_of (suc (suc (suc zero))) = tString
-type_of (suc (suc (suc (suc zero)))) = tNumber
-type_of (suc (suc (suc (suc (suc zero))))) = tContainer
-type_of (suc (suc (suc (suc (suc (suc n)))))) = tOther
+type_of zero = t_false
+type_of (suc zero) = t_true
+type_of (suc (suc zero)) = t_null
+type_of (suc (suc (suc zero))) = t_string
+type_of (suc (suc (suc (suc zero)))) = t_number
+type_of (suc (suc (suc (suc (suc zero))))) = t_container
+type_of (suc (suc (suc (suc (suc (suc n)))))) = t_other

@@ -10,7 +10,7 @@ use Rattle.json_model.specs.Number.{binary64, finite, float_tree}
 use Rattle.json_model.specs.Texts.{compare_texts}
 use Rattle.json_model.specs.declared.Order.TheVariants.{Below}
 use Rattle.json_model.specs.Tree.{Tree, null, bool, num, str, arr, obj, Trees, none, more, Members, end, member, size, sizem, depth}
-use Rattle.binary_json_rules.specs.Areas.{word, low, high, index, count, slot, text, content, numbers, Kind, kArray, kObject, kScalar, kind_of, tFalse, tTrue, tNull, tString, tNumber, tContainer, type_of}
+use Rattle.binary_json_rules.specs.Areas.{word, low, high, index, count, slot, text, content, numbers, Kind, k_array, k_object, k_scalar, kind_of, t_false, t_true, t_null, t_string, t_number, t_container, type_of}
 use Rattle.binary_json_rules.specs.Marks.{words, word_place}
 
 -- ---- what an offset may name
@@ -36,18 +36,18 @@ pub record Meta (doc : List ℕ) (o : ℕ) (kind : Kind) (n w : ℕ) : Type 0 wh
 -- The Entry at a stands for a tree. Types 0 to 2 ignore the value field; the others name a slot, a number or a container.
 abbrev mutual
   pub EntryIs : List ℕ → Tree → ℕ → Type 0
-  EntryIs doc null a = type_of (low doc a) ≡ tNull
-  EntryIs doc (bool false) a = type_of (low doc a) ≡ tFalse
-  EntryIs doc (bool true) a = type_of (low doc a) ≡ tTrue
+  EntryIs doc null a = type_of (low doc a) ≡ t_null
+  EntryIs doc (bool false) a = type_of (low doc a) ≡ t_false
+  EntryIs doc (bool true) a = type_of (low doc a) ≡ t_true
   EntryIs doc (num s m) a =
-      (k : ℕ) × (type_of (low doc a) ≡ tNumber) × NumberIs doc (high doc a) k × T (finite binary64 (number doc (high doc a) 8))
+      (k : ℕ) × (type_of (low doc a) ≡ t_number) × NumberIs doc (high doc a) k × T (finite binary64 (number doc (high doc a) 8))
       × (num s m ≡ float_tree binary64 (number doc (high doc a) 8))
-  EntryIs doc (str s) a = (k : ℕ) × (type_of (low doc a) ≡ tString) × SlotIs doc (high doc a) k × (s ≡ content doc k)
+  EntryIs doc (str s) a = (k : ℕ) × (type_of (low doc a) ≡ t_string) × SlotIs doc (high doc a) k × (s ≡ content doc k)
   EntryIs doc (arr ts) a =
-      (type_of (low doc a) ≡ tContainer) × (Meta doc (high doc a) kArray (size ts) (size ts) × EntriesAre doc ts (high doc a + 4))
+      (type_of (low doc a) ≡ t_container) × (Meta doc (high doc a) k_array (size ts) (size ts) × EntriesAre doc ts (high doc a + 4))
   EntryIs doc (obj ms) a =
-      (type_of (low doc a) ≡ tContainer)
-      × (Meta doc (high doc a) kObject (sizem ms) (2 * sizem ms) × MembersAre doc ms 0 (high doc a + 4) (high doc a + 4 + 4 * sizem ms))
+      (type_of (low doc a) ≡ t_container)
+      × (Meta doc (high doc a) k_object (sizem ms) (2 * sizem ms) × MembersAre doc ms 0 (high doc a + 4) (high doc a + 4 + 4 * sizem ms))
 
   -- the Entries from a on stand for the values of an array
   pub EntriesAre : List ℕ → Trees → ℕ → Type 0
@@ -66,15 +66,15 @@ abbrev mutual
 -- The container at c stands for a tree: an array, an object, or a scalar in a container of kind 2 with one Entry. An object's
 -- first KeyEntry has to be above 0, which is below every slot's offset.
 abbrev pub ScalarIs : List ℕ → Tree → ℕ → Type 0
-ScalarIs doc t c = Meta doc c kScalar 1 1 × EntryIs doc t (c + 4)
+ScalarIs doc t c = Meta doc c k_scalar 1 1 × EntryIs doc t (c + 4)
 
 abbrev pub ContainerIs : List ℕ → Tree → ℕ → Type 0
 ContainerIs doc null c = ScalarIs doc null c
 ContainerIs doc (bool b) c = ScalarIs doc (bool b) c
 ContainerIs doc (num s m) c = ScalarIs doc (num s m) c
 ContainerIs doc (str s) c = ScalarIs doc (str s) c
-ContainerIs doc (arr ts) c = Meta doc c kArray (size ts) (size ts) × EntriesAre doc ts (c + 4)
-ContainerIs doc (obj ms) c = Meta doc c kObject (sizem ms) (2 * sizem ms) × MembersAre doc ms 0 (c + 4) (c + 4 + 4 * sizem ms)
+ContainerIs doc (arr ts) c = Meta doc c k_array (size ts) (size ts) × EntriesAre doc ts (c + 4)
+ContainerIs doc (obj ms) c = Meta doc c k_object (sizem ms) (2 * sizem ms) × MembersAre doc ms 0 (c + 4) (c + 4 + 4 * sizem ms)
 
 -- ---- where containers stand: in any order, each after its parent's Meta, and together they tile the tree
 

@@ -6,7 +6,7 @@ use Rattle.json_model.specs.Bytes.{number}
 use Rattle.json_model.specs.Limits.{deepest}
 use Rattle.json_model.specs.Number.{binary64, float_tree}
 use Rattle.json_model.specs.Tree.{Tree, null, bool, str, arr, obj, Trees, none, more, Members, end, member}
-use Rattle.binary_json_rules.specs.Areas.{word, low, high, slot, content, Kind, kArray, kObject, kScalar, kOther, kind_of, EntryType, tFalse, tTrue, tNull, tString, tNumber, tContainer, tOther, type_of}
+use Rattle.binary_json_rules.specs.Areas.{word, low, high, slot, content, Kind, k_array, k_object, k_scalar, k_other, kind_of, EntryType, t_false, t_true, t_null, t_string, t_number, t_container, t_other, type_of}
 
 -- the number of the slot at the offset v
 abbrev pub slot_at : List ℕ → ℕ → ℕ
@@ -14,13 +14,13 @@ slot_at doc v = (v - slot doc 0) / 4
 
 -- the Entry at a, by its type; `child` is the tree of the container at an offset
 unfoldable pub entry_tree_by : List ℕ → (ℕ → Tree) → ℕ → EntryType → Tree
-entry_tree_by doc child a tFalse = bool false
-entry_tree_by doc child a tTrue = bool true
-entry_tree_by doc child a tNull = null
-entry_tree_by doc child a tString = str (content doc (slot_at doc (high doc a)))
-entry_tree_by doc child a tNumber = float_tree binary64 (number doc (high doc a) 8)
-entry_tree_by doc child a tContainer = child (high doc a)
-entry_tree_by doc child a tOther = null
+entry_tree_by doc child a t_false = bool false
+entry_tree_by doc child a t_true = bool true
+entry_tree_by doc child a t_null = null
+entry_tree_by doc child a t_string = str (content doc (slot_at doc (high doc a)))
+entry_tree_by doc child a t_number = float_tree binary64 (number doc (high doc a) 8)
+entry_tree_by doc child a t_container = child (high doc a)
+entry_tree_by doc child a t_other = null
 
 unfoldable pub entry_tree : List ℕ → (ℕ → Tree) → ℕ → Tree
 entry_tree doc child a = entry_tree_by doc child a (type_of (low doc a))
@@ -35,10 +35,10 @@ member_trees doc child zero q a = end
 member_trees doc child (suc n) q a = member (content doc (slot_at doc (word doc q))) (entry_tree doc child a) (member_trees doc child n (q + 4) (a + 4))
 
 unfoldable pub container_tree_by : List ℕ → (ℕ → Tree) → ℕ → ℕ → Kind → Tree
-container_tree_by doc child o n kArray = arr (entry_trees doc child n (o + 4))
-container_tree_by doc child o n kObject = obj (member_trees doc child n (o + 4) (o + 4 + 4 * n))
-container_tree_by doc child o n kScalar = entry_tree doc child (o + 4)
-container_tree_by doc child o n kOther = null
+container_tree_by doc child o n k_array = arr (entry_trees doc child n (o + 4))
+container_tree_by doc child o n k_object = obj (member_trees doc child n (o + 4) (o + 4 + 4 * n))
+container_tree_by doc child o n k_scalar = entry_tree doc child (o + 4)
+container_tree_by doc child o n k_other = null
 
 -- the container at o, with so many levels left
 unfoldable pub container_tree : ℕ → List ℕ → ℕ → Tree

@@ -8,7 +8,7 @@ use Rattle.json_model.specs.Bytes.{number}
 use Rattle.json_model.specs.Limits.{least_binary, longest, deepest}
 use Rattle.json_model.specs.Number.{binary64, finite}
 use Rattle.json_model.specs.Texts.{compare_texts, is_below}
-use Rattle.binary_json_rules.specs.Areas.{word, low, high, index, count, slot, text, content, numbers, Kind, kArray, kObject, kScalar, kOther, kind_of, EntryType, tFalse, tTrue, tNull, tString, tNumber, tContainer, tOther, type_of}
+use Rattle.binary_json_rules.specs.Areas.{word, low, high, index, count, slot, text, content, numbers, Kind, k_array, k_object, k_scalar, k_other, kind_of, EntryType, t_false, t_true, t_null, t_string, t_number, t_container, t_other, type_of}
 use Rattle.binary_json_rules.specs.Marks.{words, word_place, word_at, clear, fill, unmarked}
 
 -- ---- 1 to 4
@@ -76,16 +76,16 @@ key_entries doc (suc n) p q = do
 
 -- the Entry at a of the container at c, by its type; `child` reads the container at an offset
 unfoldable pub entry_by : List ℕ → (ℕ → Reading (List ℕ) (Unit {0})) → ℕ → ℕ → EntryType → Reading (List ℕ) (Unit {0})
-entry_by doc child c a tFalse = answer tt
-entry_by doc child c a tTrue = answer tt
-entry_by doc child c a tNull = answer tt
-entry_by doc child c a tString = slot_named doc (high doc a) 9 a
-entry_by doc child c a tNumber = number_named doc (high doc a) 9 a
-entry_by doc child c a tContainer = do
+entry_by doc child c a t_false = answer tt
+entry_by doc child c a t_true = answer tt
+entry_by doc child c a t_null = answer tt
+entry_by doc child c a t_string = slot_named doc (high doc a) 9 a
+entry_by doc child c a t_number = number_named doc (high doc a) 9 a
+entry_by doc child c a t_container = do
   need (eqb (high doc a % 4) 0) 9 a
   need (ltb c (high doc a)) 9 a
   child (high doc a)
-entry_by doc child c a tOther = refuse 9 a
+entry_by doc child c a t_other = refuse 9 a
 
 unfoldable pub entry : List ℕ → (ℕ → Reading (List ℕ) (Unit {0})) → ℕ → ℕ → Reading (List ℕ) (Unit {0})
 entry doc child c a = entry_by doc child c a (type_of (low doc a))
@@ -108,17 +108,17 @@ mark_body o w = do
 
 -- the container at o, of size n, by its kind; one of kind 2 below the root is refused
 unfoldable pub container_by : List ℕ → (ℕ → Reading (List ℕ) (Unit {0})) → ℕ → ℕ → Kind → Reading (List ℕ) (Unit {0})
-container_by doc child o n kArray = do
+container_by doc child o n k_array = do
   need (leb (o + 4 + 4 * n) (index doc)) 8 o
   mark_body o (1 + n)
   entries doc child o n (o + 4)
-container_by doc child o n kObject = do
+container_by doc child o n k_object = do
   need (leb (o + 4 + 4 * (2 * n)) (index doc)) 8 o
   mark_body o (1 + 2 * n)
   key_entries doc n 0 (o + 4)
   entries doc child o n (o + 4 + 4 * n)
-container_by doc child o n kScalar = refuse 8 o
-container_by doc child o n kOther = refuse 8 o
+container_by doc child o n k_scalar = refuse 8 o
+container_by doc child o n k_other = refuse 8 o
 
 -- with so many levels left
 unfoldable pub container : ℕ → List ℕ → ℕ → Reading (List ℕ) (Unit {0})
@@ -136,10 +136,10 @@ scalar doc = do
   entry doc (λ o. refuse 9 8) 4 8
 
 unfoldable pub root_by : List ℕ → Kind → Reading (List ℕ) (Unit {0})
-root_by doc kArray = container deepest doc 4
-root_by doc kObject = container deepest doc 4
-root_by doc kScalar = scalar doc
-root_by doc kOther = container deepest doc 4
+root_by doc k_array = container deepest doc 4
+root_by doc k_object = container deepest doc 4
+root_by doc k_scalar = scalar doc
+root_by doc k_other = container deepest doc 4
 
 -- ---- 15 and 13: the marks before the walk and after it
 

@@ -10,7 +10,7 @@ use lib.Dec.{T, leb→le, ltb→lt}
 use lib.ListN.{length, get_or}
 use Rattle.json_model.specs.Reading.{Outcome, halt, done, Reading, follow, ◌>>=◌, need}
 use Rattle.json_model.specs.Limits.{deepest}
-use Rattle.binary_json_rules.specs.Areas.{word, low, high, index, count, Kind, kArray, kObject, kScalar, kOther, kind_of, EntryType, tFalse, tTrue, tNull, tString, tNumber, tContainer, tOther, type_of}
+use Rattle.binary_json_rules.specs.Areas.{word, low, high, index, count, Kind, k_array, k_object, k_scalar, k_other, kind_of, EntryType, t_false, t_true, t_null, t_string, t_number, t_container, t_other, type_of}
 use Rattle.binary_json_rules.specs.Marks.{words, word_at, fill}
 use Rattle.binary_json_rules.specs.Verdict.{header, slot_rules, slots, slot_named, number_named, key_entries, entry_by, entry, entries, mark_body, container_by, container, scalar, root_by, lent, all_marked, check, verdict}
 use Rattle.binary_json_theorems.proofs.Marks.{fill_length, fill_in, fill_past, fill_bits}
@@ -132,15 +132,15 @@ module _ (doc marks : List ℕ) where
     module _ (child : ℕ → Reading (List ℕ) (Unit {0})) (ih : (o : ℕ) (z : List ℕ) → 4 ≤ o → Walked z → Ends AtRefusal Walked (child o z)) where
       entry_by_ends : (c a : ℕ) (t : EntryType) (z : List ℕ) → 4 ≤ c → Walked z → Ends AtRefusal Walked (entry_by doc child c a t z)
       unfolding entry_by
-      entry_by_ends c a tFalse z l w = w
-      entry_by_ends c a tTrue z l w = w
-      entry_by_ends c a tNull z l w = w
-      entry_by_ends c a tString z l w = slot_named_ends _ 9 a z (omega arith) (omega arith) w
-      entry_by_ends c a tNumber z l w = number_named_ends _ a z w
-      entry_by_ends c a tContainer z l w =
+      entry_by_ends c a t_false z l w = w
+      entry_by_ends c a t_true z l w = w
+      entry_by_ends c a t_null z l w = w
+      entry_by_ends c a t_string z l w = slot_named_ends _ 9 a z (omega arith) (omega arith) w
+      entry_by_ends c a t_number z l w = number_named_ends _ a z w
+      entry_by_ends c a t_container z l w =
           let h = late 9 z (omega arith) (omega arith) w in
           ends_test AtRefusal Walked _ 9 _ _ z h (λ _. ends_test AtRefusal Walked _ 9 _ _ z h (λ t. let p : c < high doc a = ltb→lt _ _ t in ih (high doc a) z (omega arith) w))
-      entry_by_ends c a tOther z l w = late 9 z (omega arith) (omega arith) w
+      entry_by_ends c a t_other z l w = late 9 z (omega arith) (omega arith) w
 
       entries_end : (n c a : ℕ) (z : List ℕ) → 4 ≤ c → Walked z → Ends AtRefusal Walked (entries doc child c n a z)
       unfolding entries entry
@@ -149,15 +149,15 @@ module _ (doc marks : List ℕ) where
 
       container_by_ends : (o n : ℕ) (k : Kind) (z : List ℕ) → 4 ≤ o → Walked z → Ends AtRefusal Walked (container_by doc child o n k z)
       unfolding container_by
-      container_by_ends o n kArray z l w =
+      container_by_ends o n k_array z l w =
           ends_test AtRefusal Walked _ 8 _ _ z (late 8 z (omega arith) (omega arith) w) (λ t. let i : o + 4 + 4 * n ≤ index doc = leb→le _ _ t in
           ends_then AtRefusal Walked Walked _ _ z (mark_ends o (1 + n) z l (omega arith) w) (λ _ y v. entries_end n o _ y l v))
-      container_by_ends o n kObject z l w =
+      container_by_ends o n k_object z l w =
           ends_test AtRefusal Walked _ 8 _ _ z (late 8 z (omega arith) (omega arith) w) (λ t. let i : o + 4 + 4 * (2 * n) ≤ index doc = leb→le _ _ t in
           ends_then AtRefusal Walked Walked _ _ z (mark_ends o (1 + 2 * n) z l (omega arith) w)
           (λ _ y v. ends_then AtRefusal Walked Walked _ _ y (keys_end n 0 _ y v) (λ _ x u. entries_end n o _ x l u)))
-      container_by_ends o n kScalar z l w = late 8 z (omega arith) (omega arith) w
-      container_by_ends o n kOther z l w = late 8 z (omega arith) (omega arith) w
+      container_by_ends o n k_scalar z l w = late 8 z (omega arith) (omega arith) w
+      container_by_ends o n k_other z l w = late 8 z (omega arith) (omega arith) w
 
     container_ends : (levels o : ℕ) (z : List ℕ) → 4 ≤ o → Walked z → Ends AtRefusal Walked (container levels doc o z)
     unfolding container
@@ -167,14 +167,14 @@ module _ (doc marks : List ℕ) where
 
     root_ends : (k : Kind) (z : List ℕ) → Walked z → Ends AtRefusal Walked (root_by doc k z)
     unfolding root_by scalar entry
-    root_ends kArray z w = container_ends deepest 4 z (omega arith) w
-    root_ends kObject z w = container_ends deepest 4 z (omega arith) w
-    root_ends kScalar z w =
+    root_ends k_array z w = container_ends deepest 4 z (omega arith) w
+    root_ends k_object z w = container_ends deepest 4 z (omega arith) w
+    root_ends k_scalar z w =
         let h = late 8 z (omega arith) (omega arith) w in
         ends_test AtRefusal Walked _ 8 _ _ z h (λ _. ends_test AtRefusal Walked _ 8 _ _ z h (λ t. let i : 12 ≤ index doc = leb→le _ _ t in
         ends_then AtRefusal Walked Walked _ _ z (mark_ends 4 2 z (omega arith) (omega arith) w)
         (λ _ y v. entry_by_ends _ (λ o x l u. late 9 x (omega arith) (omega arith) u) 4 8 (type_of (low doc 8)) y (omega arith) v)))
-    root_ends kOther z w = container_ends deepest 4 z (omega arith) w
+    root_ends k_other z w = container_ends deepest 4 z (omega arith) w
 
     all_marked_ends : (z : List ℕ) → Walked z → Ends AtRefusal Walked (all_marked doc z)
     unfolding all_marked ◌>>=◌ follow

@@ -13,7 +13,7 @@ use Rattle.json_model.specs.Bytes.{number, part}
 use Rattle.json_model.specs.Span.{Span}
 use Rattle.json_model.specs.Tree.{Tree, null, bool, num, str, arr, obj, Trees, Members, member, end, size, sizem, MemberIs, IsContainer, NoNumber, NoString, NoObject, NoContainer}
 use Rattle.json_model.proofs.Reading.{eq→eqb, past, then, stops, pass, fail, need_yes}
-use Rattle.binary_json_rules.specs.Areas.{word, low, high, index, count, slot, text, content, numbers, Kind, kArray, kObject, kScalar, kOther, kind_of, EntryType, tFalse, tTrue, tNull, tString, tNumber, tContainer, tOther, type_of}
+use Rattle.binary_json_rules.specs.Areas.{word, low, high, index, count, slot, text, content, numbers, Kind, k_array, k_object, k_scalar, k_other, kind_of, EntryType, t_false, t_true, t_null, t_string, t_number, t_container, t_other, type_of}
 use Rattle.binary_json_rules.specs.Meaning.{SlotIs, Meta, EntryIs, MembersAre, ContainerIs, Means}
 use Rattle.binary_json_rules.specs.Questions.{opening, tree_word, body, body_words, kind_here, kind_and_size, element_here, element, object_here, key_entry_of, entry_of, member_here, member_at, slot_read, text_named, slot_text, slot_bytes, type_here, entry_type, container_here, container_at, string_here, string_at, number_here, number_at}
 use Rattle.binary_json_rules.specs.Answers.{sized, sized_as, typed_as}
@@ -25,16 +25,16 @@ use Rattle.binary_json_theorems.proofs.Cases.{by_kind, by_type}
 -- ---- the numbers of kinds and types
 
 abbrev kind_number : Kind → ℕ
-kind_number kArray = 0
-kind_number kObject = 1
-kind_number kScalar = 2
-kind_number kOther = 3
+kind_number k_array = 0
+kind_number k_object = 1
+kind_number k_scalar = 2
+kind_number k_other = 3
 
 abbrev Known : Kind → Type 0
-Known kArray = Unit {0}
-Known kObject = Unit {0}
-Known kScalar = Unit {0}
-Known kOther = ⊥
+Known k_array = Unit {0}
+Known k_object = Unit {0}
+Known k_scalar = Unit {0}
+Known k_other = ⊥
 
 kind_number_lem : (n : ℕ) → Known (kind_of n) → n ≡ kind_number (kind_of n)
 kind_number_lem = by_kind (λ n k. Known k → n ≡ kind_number k) (λ o. refl) (λ o. refl) (λ o. refl) (λ n o. absurd o)
@@ -43,22 +43,22 @@ kind_is : (doc : List ℕ) (c n w : ℕ) (k : Kind) → Known k → Meta doc c k
 kind_is doc c n w k o h = (rw h.kind_is at (kind_number_lem (low doc c))) o
 
 abbrev type_number : EntryType → ℕ
-type_number tFalse = 0
-type_number tTrue = 1
-type_number tNull = 2
-type_number tString = 3
-type_number tNumber = 4
-type_number tContainer = 5
-type_number tOther = 6
+type_number t_false = 0
+type_number t_true = 1
+type_number t_null = 2
+type_number t_string = 3
+type_number t_number = 4
+type_number t_container = 5
+type_number t_other = 6
 
 abbrev KnownType : EntryType → Type 0
-KnownType tFalse = Unit {0}
-KnownType tTrue = Unit {0}
-KnownType tNull = Unit {0}
-KnownType tString = Unit {0}
-KnownType tNumber = Unit {0}
-KnownType tContainer = Unit {0}
-KnownType tOther = ⊥
+KnownType t_false = Unit {0}
+KnownType t_true = Unit {0}
+KnownType t_null = Unit {0}
+KnownType t_string = Unit {0}
+KnownType t_number = Unit {0}
+KnownType t_container = Unit {0}
+KnownType t_other = ⊥
 
 type_number_lem : (n : ℕ) → KnownType (type_of n) → n ≡ type_number (type_of n)
 type_number_lem = by_type (λ n k. KnownType k → n ≡ type_number k) (λ o. refl) (λ o. refl) (λ o. refl) (λ o. refl) (λ o. refl) (λ o. refl) (λ n o. absurd o)
@@ -69,13 +69,13 @@ type_is doc a k o e = (rw e at (type_number_lem (low doc a))) o
 -- the type that an Entry has, from what it stands for
 typed : (doc : List ℕ) (a : ℕ) (v : Tree) → EntryIs doc v a → low doc a ≡ typed_as v
 unfolding typed_as
-typed doc a null h = type_is doc a tNull tt h
-typed doc a (bool false) h = type_is doc a tFalse tt h
-typed doc a (bool true) h = type_is doc a tTrue tt h
-typed doc a (num s x) h = type_is doc a tNumber tt h.1
-typed doc a (str s) h = type_is doc a tString tt h.1
-typed doc a (arr ts) h = type_is doc a tContainer tt h.0
-typed doc a (obj ms) h = type_is doc a tContainer tt h.0
+typed doc a null h = type_is doc a t_null tt h
+typed doc a (bool false) h = type_is doc a t_false tt h
+typed doc a (bool true) h = type_is doc a t_true tt h
+typed doc a (num s x) h = type_is doc a t_number tt h.1
+typed doc a (str s) h = type_is doc a t_string tt h.1
+typed doc a (arr ts) h = type_is doc a t_container tt h.0
+typed doc a (obj ms) h = type_is doc a t_container tt h.0
 
 module _ (doc : List ℕ) (t : Tree) (m : Means doc t) where
   -- ---- the areas
@@ -125,16 +125,16 @@ module _ (doc : List ℕ) (t : Tree) (m : Means doc t) where
   unfolding kind_and_size kind_here body
   kind_by_lem c n w k o h z b e =
       let fits = h.inside in
-      comes_to c _ z (omega arith) ∙ rw (kind_is doc c n w k o h, h.size-is, e) (pass _ _ _ _ tt b ∙ pass _ _ _ _ tt (le→leb _ _ fits))
+      comes_to c _ z (omega arith) ∙ rw (kind_is doc c n w k o h, h.size_is, e) (pass _ _ _ _ tt b ∙ pass _ _ _ _ tt (le→leb _ _ fits))
 
   pub kind_answer : (c : ℕ) (u : Tree) → ContainerIs doc u c → Aligned c → ask (kind_and_size doc c) ≡ answers (sized_as u)
   unfolding body_words choose sized_as
-  kind_answer c null h z = kind_by_lem c 1 1 kScalar tt h.0 z tt refl
-  kind_answer c (bool b) h z = kind_by_lem c 1 1 kScalar tt h.0 z tt refl
-  kind_answer c (num s n) h z = kind_by_lem c 1 1 kScalar tt h.0 z tt refl
-  kind_answer c (str s) h z = kind_by_lem c 1 1 kScalar tt h.0 z tt refl
-  kind_answer c (arr ts) h z = kind_by_lem c (size ts) (size ts) kArray tt h.0 z tt refl
-  kind_answer c (obj ms) h z = kind_by_lem c (sizem ms) (2 * sizem ms) kObject tt h.0 z tt refl
+  kind_answer c null h z = kind_by_lem c 1 1 k_scalar tt h.0 z tt refl
+  kind_answer c (bool b) h z = kind_by_lem c 1 1 k_scalar tt h.0 z tt refl
+  kind_answer c (num s n) h z = kind_by_lem c 1 1 k_scalar tt h.0 z tt refl
+  kind_answer c (str s) h z = kind_by_lem c 1 1 k_scalar tt h.0 z tt refl
+  kind_answer c (arr ts) h z = kind_by_lem c (size ts) (size ts) k_array tt h.0 z tt refl
+  kind_answer c (obj ms) h z = kind_by_lem c (sizem ms) (2 * sizem ms) k_object tt h.0 z tt refl
 
   -- ---- element i
 
@@ -143,23 +143,23 @@ module _ (doc : List ℕ) (t : Tree) (m : Means doc t) where
   unfolding element element_here body
   elements c i n k o h z b =
       let fits = h.inside in
-      comes_to c _ z (omega arith) ∙ rw (kind_is doc c n n k o h, h.size-is) (pass _ _ _ _ tt b ∙ pass _ _ _ _ tt (le→leb _ _ fits))
+      comes_to c _ z (omega arith) ∙ rw (kind_is doc c n n k o h, h.size_is) (pass _ _ _ _ tt b ∙ pass _ _ _ _ tt (le→leb _ _ fits))
 
   pub element_answer : (c i : ℕ) (ts : Trees) → ContainerIs doc (arr ts) c → Aligned c → i < size ts → ask (element doc c i) ≡ answers (c + 4 + 4 * i)
-  element_answer c i ts h z b = elements c i (size ts) kArray tt h.0 z tt ∙ pass _ _ _ _ tt (lt→ltb _ _ b)
+  element_answer c i ts h z b = elements c i (size ts) k_array tt h.0 z tt ∙ pass _ _ _ _ tt (lt→ltb _ _ b)
 
   pub element_past : (c i : ℕ) (ts : Trees) → ContainerIs doc (arr ts) c → Aligned c → size ts ≤ i → ask (element doc c i) ≡ refuses 22 c
-  element_past c i ts h z b = elements c i (size ts) kArray tt h.0 z tt ∙ fail _ _ _ _ tt (past b)
+  element_past c i ts h z b = elements c i (size ts) k_array tt h.0 z tt ∙ fail _ _ _ _ tt (past b)
 
   pub element_wrong : (c i : ℕ) (ms : Members) → ContainerIs doc (obj ms) c → Aligned c → ask (element doc c i) ≡ refuses 21 c
   unfolding element element_here
   element_wrong c i ms h z =
       let fits = h.0.inside in
-      comes_to c _ z (omega arith) ∙ rw (kind_is doc c _ _ kObject tt h.0) (fail _ _ _ _ tt (λ t. t))
+      comes_to c _ z (omega arith) ∙ rw (kind_is doc c _ _ k_object tt h.0) (fail _ _ _ _ tt (λ t. t))
 
   -- a scalar alone is element 0
-  scalar_by : (c i : ℕ) → Meta doc c kScalar 1 1 → Aligned c → ask (element doc c i) ≡ ask (need (ltb i 1) 22 c >>= λ _. answer (c + 4 + 4 * i))
-  scalar_by c i h z = elements c i 1 kScalar tt h z tt
+  scalar_by : (c i : ℕ) → Meta doc c k_scalar 1 1 → Aligned c → ask (element doc c i) ≡ ask (need (ltb i 1) 22 c >>= λ _. answer (c + 4 + 4 * i))
+  scalar_by c i h z = elements c i 1 k_scalar tt h z tt
 
   pub scalar_answer : (c : ℕ) (u : Tree) → NoContainer u → ContainerIs doc u c → Aligned c → ask (element doc c 0) ≡ answers (c + 4)
   scalar_answer c u n h z =
@@ -175,18 +175,18 @@ module _ (doc : List ℕ) (t : Tree) (m : Means doc t) where
   unfolding object_here body
   object_here_lem c ms h z =
       let fits = h.0.inside in
-      then _ _ tt (word_in c c z (omega arith)) ∙ rw (kind_is doc c _ _ kObject tt h.0, h.0.size-is) (pass _ _ _ _ tt tt ∙ pass _ _ _ _ tt (le→leb _ _ fits))
+      then _ _ tt (word_in c c z (omega arith)) ∙ rw (kind_is doc c _ _ k_object tt h.0, h.0.size_is) (pass _ _ _ _ tt tt ∙ pass _ _ _ _ tt (le→leb _ _ fits))
 
   pub object_answer : {A : Type 0} (c : ℕ) (ms : Members) (rest : ℕ → Reading (Unit {0}) A) → ContainerIs doc (obj ms) c → Aligned c
       → ask (opening doc c >>= λ _. object_here doc c >>= rest) ≡ ask (rest (sizem ms))
   object_answer c ms rest h z = then _ _ tt (opens c) ∙ then _ _ tt (object_here_lem c ms h z)
 
   other_kind : (c : ℕ) (u : Tree) → NoObject u → ContainerIs doc u c → T (eqb (low doc c) 1) → ⊥
-  other_kind c null n h = rw (kind_is doc c 1 1 kScalar tt h.0) (λ t. t)
-  other_kind c (bool b) n h = rw (kind_is doc c 1 1 kScalar tt h.0) (λ t. t)
-  other_kind c (num s x) n h = rw (kind_is doc c 1 1 kScalar tt h.0) (λ t. t)
-  other_kind c (str s) n h = rw (kind_is doc c 1 1 kScalar tt h.0) (λ t. t)
-  other_kind c (arr ts) n h = rw (kind_is doc c _ _ kArray tt h.0) (λ t. t)
+  other_kind c null n h = rw (kind_is doc c 1 1 k_scalar tt h.0) (λ t. t)
+  other_kind c (bool b) n h = rw (kind_is doc c 1 1 k_scalar tt h.0) (λ t. t)
+  other_kind c (num s x) n h = rw (kind_is doc c 1 1 k_scalar tt h.0) (λ t. t)
+  other_kind c (str s) n h = rw (kind_is doc c 1 1 k_scalar tt h.0) (λ t. t)
+  other_kind c (arr ts) n h = rw (kind_is doc c _ _ k_array tt h.0) (λ t. t)
   other_kind c (obj ms) n h = absurd (n ms refl)
 
   wrong_here : (c : ℕ) (u : Tree) → NoObject u → ContainerIs doc u c → Aligned c → ask (object_here doc c) ≡ refuses 21 c
@@ -275,7 +275,7 @@ module _ (doc : List ℕ) (t : Tree) (m : Means doc t) where
 
   -- the container of an Entry
 
-  pub container_named : (a : ℕ) (v : Tree) → IsContainer v → EntryIs doc v a → (type_of (low doc a) ≡ tContainer) × ContainerIs doc v (high doc a)
+  pub container_named : (a : ℕ) (v : Tree) → IsContainer v → EntryIs doc v a → (type_of (low doc a) ≡ t_container) × ContainerIs doc v (high doc a)
   container_named a null n h = absurd n
   container_named a (bool b) n h = absurd n
   container_named a (num s x) n h = absurd n
@@ -287,7 +287,7 @@ module _ (doc : List ℕ) (t : Tree) (m : Means doc t) where
   unfolding container_at container_here
   container_answer a v n h z i y =
       let (e, is) = container_named a v n h in
-      comes_to a _ z i ∙ (pass _ _ _ _ tt (eq→eqb (type_is doc a tContainer tt e)) ∙ then _ _ tt (word_in (high doc a) a y (body_inside v (high doc a) is)))
+      comes_to a _ z i ∙ (pass _ _ _ _ tt (eq→eqb (type_is doc a t_container tt e)) ∙ then _ _ tt (word_in (high doc a) a y (body_inside v (high doc a) is)))
 
   no_container : (v : Tree) → NoContainer v → T (eqb (typed_as v) 5) → ⊥
   unfolding typed_as
@@ -307,7 +307,7 @@ module _ (doc : List ℕ) (t : Tree) (m : Means doc t) where
 
   pub string_answer : (a : ℕ) (s : List ℕ) (h : EntryIs doc (str s) a) → Aligned a → a + 4 ≤ index doc → ask (string_at doc a) ≡ answers (span_of h.0)
   unfolding string_at string_here
-  string_answer a s h z i = comes_to a _ z i ∙ (pass _ _ _ _ tt (eq→eqb (type_is doc a tString tt h.1)) ∙ text_named_lem (high doc a) h.0 a h.2)
+  string_answer a s h z i = comes_to a _ z i ∙ (pass _ _ _ _ tt (eq→eqb (type_is doc a t_string tt h.1)) ∙ text_named_lem (high doc a) h.0 a h.2)
 
   no_string : (v : Tree) → NoString v → T (eqb (typed_as v) 3) → ⊥
   unfolding typed_as
@@ -328,7 +328,7 @@ module _ (doc : List ℕ) (t : Tree) (m : Means doc t) where
   pub number_answer : (a : ℕ) (x : Bool) (n : ℕ) → EntryIs doc (num x n) a → Aligned a → a + 4 ≤ index doc → ask (number_at doc a) ≡ answers (number doc (high doc a) 8)
   unfolding number_at number_here
   number_answer a x n h z i =
-      comes_to a _ z i ∙ (pass _ _ _ _ tt (eq→eqb (type_is doc a tNumber tt h.1)) ∙ then _ _ tt (number_named_lem doc tt (high doc a) 20 a h.0 h.2 h.3))
+      comes_to a _ z i ∙ (pass _ _ _ _ tt (eq→eqb (type_is doc a t_number tt h.1)) ∙ then _ _ tt (number_named_lem doc tt (high doc a) 20 a h.0 h.2 h.3))
 
   no_number : (v : Tree) → NoNumber v → T (eqb (typed_as v) 4) → ⊥
   unfolding typed_as

@@ -12,7 +12,7 @@ use lib.Seq.{get_or-set_same, get_or-set_other}
 use Rattle.json_model.specs.Reading.{Reading, ask, follow, ◌>>=◌}
 use Rattle.json_model.specs.Limits.{deepest}
 use Rattle.json_model.proofs.Alike.{Alike, Sim, sim_then, sim_carry, sim_test, sim_need}
-use Rattle.binary_json_rules.specs.Areas.{low, high, index, count, Kind, kArray, kObject, kScalar, kOther, kind_of, EntryType, tFalse, tTrue, tNull, tString, tNumber, tContainer, tOther, type_of}
+use Rattle.binary_json_rules.specs.Areas.{low, high, index, count, Kind, k_array, k_object, k_scalar, k_other, kind_of, EntryType, t_false, t_true, t_null, t_string, t_number, t_container, t_other, type_of}
 use Rattle.binary_json_rules.specs.Marks.{words, word_place, word_at, clear, fill, unmarked}
 use Rattle.binary_json_rules.specs.Verdict.{header, slots, slot_named, number_named, key_entries, entry_by, entry, entries, mark_body, container_by, container, scalar, root_by, lent, all_marked, check, verdict}
 use Rattle.binary_json_theorems.proofs.Carried.{carry_header, carry_slots, carry_slot_named, carry_number_named, carry_keys}
@@ -115,15 +115,15 @@ module _ (doc : List ℕ) where
     module _ (child : ℕ → Reading (List ℕ) (Unit {0})) (ih : (o : ℕ) → 4 ≤ o → Both Like Like (child o)) where
       entry_by_both : (c a : ℕ) (t : EntryType) → 4 ≤ c → Both Like Like (entry_by doc child c a t)
       unfolding entry_by
-      entry_by_both c a tFalse l y z r = (refl, r)
-      entry_by_both c a tTrue l y z r = (refl, r)
-      entry_by_both c a tNull l y z r = (refl, r)
-      entry_by_both c a tString l y z r = named_both _ 9 a y z r
-      entry_by_both c a tNumber l y z r = numbered_both _ 9 a y z r
-      entry_by_both c a tContainer l y z r =
+      entry_by_both c a t_false l y z r = (refl, r)
+      entry_by_both c a t_true l y z r = (refl, r)
+      entry_by_both c a t_null l y z r = (refl, r)
+      entry_by_both c a t_string l y z r = named_both _ 9 a y z r
+      entry_by_both c a t_number l y z r = numbered_both _ 9 a y z r
+      entry_by_both c a t_container l y z r =
           sim_test Kept Like _ _ 9 a _ _ y z refl (walked r) (λ _. sim_test Kept Like _ _ 9 a _ _ y z refl (walked r)
           (λ t. let p : c < high doc a = ltb→lt _ _ t in ih (high doc a) (omega arith) y z r))
-      entry_by_both c a tOther l y z r = (refl, refl, walked r)
+      entry_by_both c a t_other l y z r = (refl, refl, walked r)
 
       entries_both : (n c a : ℕ) → 4 ≤ c → Both Like Like (entries doc child c n a)
       unfolding entries entry
@@ -132,15 +132,15 @@ module _ (doc : List ℕ) where
 
       container_by_both : (o n : ℕ) (k : Kind) → 4 ≤ o → Both Like Like (container_by doc child o n k)
       unfolding container_by
-      container_by_both o n kArray l y z r =
+      container_by_both o n k_array l y z r =
           sim_test Kept Like _ _ 8 o _ _ y z refl (walked r) (λ t. let i : o + 4 + 4 * n ≤ index doc = leb→le _ _ t in
           sim_then Kept Like Like Like _ _ _ _ (mark_both o (1 + n) l (omega arith)) (λ _. entries_both n o _ l) y z r)
-      container_by_both o n kObject l y z r =
+      container_by_both o n k_object l y z r =
           sim_test Kept Like _ _ 8 o _ _ y z refl (walked r) (λ t. let i : o + 4 + 4 * (2 * n) ≤ index doc = leb→le _ _ t in
           sim_then Kept Like Like Like _ _ _ _ (mark_both o (1 + 2 * n) l (omega arith))
           (λ _. sim_then Kept Like Like Like _ _ _ _ (keys_both n 0 _) (λ _. entries_both n o _ l)) y z r)
-      container_by_both o n kScalar l y z r = (refl, refl, walked r)
-      container_by_both o n kOther l y z r = (refl, refl, walked r)
+      container_by_both o n k_scalar l y z r = (refl, refl, walked r)
+      container_by_both o n k_other l y z r = (refl, refl, walked r)
 
     container_both : (levels o : ℕ) → 4 ≤ o → Both Like Like (container levels doc o)
     unfolding container
@@ -150,13 +150,13 @@ module _ (doc : List ℕ) where
 
     root_both : (k : Kind) → Both Like Like (root_by doc k)
     unfolding root_by scalar entry
-    root_both kArray = container_both deepest 4 (omega arith)
-    root_both kObject = container_both deepest 4 (omega arith)
-    root_both kScalar = λ y z r.
+    root_both k_array = container_both deepest 4 (omega arith)
+    root_both k_object = container_both deepest 4 (omega arith)
+    root_both k_scalar = λ y z r.
         sim_test Kept Like _ _ 8 4 _ _ y z refl (walked r) (λ _. sim_test Kept Like _ _ 8 4 _ _ y z refl (walked r) (λ t. let i : 12 ≤ index doc = leb→le _ _ t in
         sim_then Kept Like Like Like _ _ _ _ (mark_both 4 2 (omega arith) (omega arith))
         (λ _. entry_by_both _ (λ o l x v u. (refl, refl, walked u)) 4 8 (type_of (low doc 8)) (omega arith)) y z r))
-    root_both kOther = container_both deepest 4 (omega arith)
+    root_both k_other = container_both deepest 4 (omega arith)
 
     all_marked_both : Both Like Like (all_marked doc)
     unfolding all_marked ◌>>=◌ follow

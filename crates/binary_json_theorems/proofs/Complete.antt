@@ -14,7 +14,7 @@ use Rattle.json_model.specs.Texts.{compare_texts}
 use Rattle.json_model.specs.declared.Order.TheVariants.{Below}
 use Rattle.json_model.specs.Tree.{Tree, null, bool, num, str, arr, obj, Trees, none, more, Members, end, member, size, sizem, depth, depths, depthm}
 use Rattle.json_model.proofs.Reading.{eq→eqb, then, pass, need_yes}
-use Rattle.binary_json_rules.specs.Areas.{word, low, high, index, count, slot, content, numbers, kind_of, tContainer, type_of}
+use Rattle.binary_json_rules.specs.Areas.{word, low, high, index, count, slot, content, numbers, kind_of, t_container, type_of}
 use Rattle.binary_json_rules.specs.Meaning.{SlotIs, NumberIs, EntryIs, EntriesAre, MembersAre, ScalarIs, ContainerIs, Placed, PlacedAll, PlacedMembers, PlacedUnder, within, bodies, bodies_all, bodies_members, bodies_from, SlotGood, Means}
 use Rattle.binary_json_rules.specs.Verdict.{header, ascends, slot_rules, slots, slot_named, number_named, key_entries, entry_by, entry, entries, mark_body, container_by, container, scalar, root_by, lent, all_marked, check}
 use Rattle.binary_json_rules.specs.Marks.{words, word_at, clear, fill, unmarked}
@@ -151,7 +151,7 @@ module _ (doc : List ℕ) where
       (through_then _ _ ms _ _ x (through_after _ _ _ _ k y))))
 
   -- an Entry that names a container where one may stand
-  names : (child : ℕ → Reading (List ℕ) (Unit {0})) (c a : ℕ) (ms : List ℕ) (f : ℕ → ℕ) → type_of (low doc a) ≡ tContainer → high doc a % 4 ≡ 0 → c < high doc a
+  names : (child : ℕ → Reading (List ℕ) (Unit {0})) (c a : ℕ) (ms : List ℕ) (f : ℕ → ℕ) → type_of (low doc a) ≡ t_container → high doc a % 4 ≡ 0 → c < high doc a
       → Through doc (child (high doc a)) ms f → Through doc (entry doc child c a) ms f
   unfolding entry entry_by
   names child c a ms f k s p x = rw k (through_after _ _ ms _ (need_yes _ _ _ ms (eq→eqb s)) (through_after _ _ ms _ (need_yes _ _ _ ms (lt→ltb _ _ p)) x))

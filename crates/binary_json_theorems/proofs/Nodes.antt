@@ -7,7 +7,7 @@ use Prim.Native.Nat.{ℕ, zero, suc, ◌+◌, ◌*◌, ◌%◌, ◌≤◌, ◌<�
 use native.Mathlib.Omega.{arith}
 use Rattle.json_model.specs.Tree.{Tree, null, bool, num, str, arr, obj, Trees, none, more, Members, end, member, size, sizem, depth, ElementIs, MemberIs, NoContainer, Subtree, whole, element, value}
 use Rattle.json_model.proofs.Tree.{element_at_lem, member_at_lem}
-use Rattle.binary_json_rules.specs.Areas.{word, low, high, index, kArray, kObject, kScalar, tContainer, type_of}
+use Rattle.binary_json_rules.specs.Areas.{word, low, high, index, k_array, k_object, k_scalar, t_container, type_of}
 use Rattle.binary_json_rules.specs.Meaning.{Meta, EntryIs, EntriesAre, MembersAre, ScalarIs, ContainerIs, Placed, PlacedAll, PlacedMembers, PlacedUnder, Means}
 use Rattle.binary_json_rules.specs.Leads.{EntryOf, of_array, of_scalar, of_object, Leads, root, named}
 use Rattle.binary_json_theorems.proofs.Trees.{entry_tree_lem, container_tree_lem}
@@ -24,13 +24,13 @@ container_one doc c u v p q =
     let l = max (depth u) (depth v) in
     sym (container_tree_lem doc u l c p (omega arith)) ∙ container_tree_lem doc v l c q (omega arith)
 
-array≢object : kArray ≡ kObject → ⊥
+array≢object : k_array ≡ k_object → ⊥
 array≢object e = let z : ◌≡◌ {A = ℕ} 0 1 = cc in omega arith
 
-array≢scalar : kArray ≡ kScalar → ⊥
+array≢scalar : k_array ≡ k_scalar → ⊥
 array≢scalar e = let z : ◌≡◌ {A = ℕ} 0 1 = cc in omega arith
 
-object≢scalar : kObject ≡ kScalar → ⊥
+object≢scalar : k_object ≡ k_scalar → ⊥
 object≢scalar e = let z : ◌≡◌ {A = ℕ} 0 1 = cc in omega arith
 
 -- ---- places
@@ -132,12 +132,12 @@ module _ (doc : List ℕ) where
         as_entry c (c + 4 + 4 * sizem ms) j v z.least (member_is_lem ms j 0 (c + 4) _ k v h.1 x) (child_member ms j c _ k v f x) z4 (omega arith) (value ms j k w x)
 
     -- the Entry of a scalar that stands alone
-    scalar_entry : (c : ℕ) (u : Tree) → Meta doc c kScalar 1 1 → EntryIs doc u (c + 4) → Aligned c → Subtree t u → depth u ≤ 0 → Entry doc t (c + 4)
+    scalar_entry : (c : ℕ) (u : Tree) → Meta doc c k_scalar 1 1 → EntryIs doc u (c + 4) → Aligned c → Subtree t u → depth u ≤ 0 → Entry doc t (c + 4)
     scalar_entry c u m h z w d =
         let fits = m.inside in
         record { tree = u; is = h; parent = c; parent_least = z.least; placed = plain_placed u c (c + 4) d; aligned = next_word c z; inside = omega arith; within = w }
 
-    scalar_entry_of : (c a : ℕ) (u : Tree) → Meta doc c kScalar 1 1 → EntryIs doc u (c + 4) → Aligned c → Subtree t u → depth u ≤ 0 → EntryOf doc c a → Entry doc t a
+    scalar_entry_of : (c a : ℕ) (u : Tree) → Meta doc c k_scalar 1 1 → EntryIs doc u (c + 4) → Aligned c → Subtree t u → depth u ≤ 0 → EntryOf doc c a → Entry doc t a
     scalar_entry_of c a u m h z w d (of_array i k b p) = absurd (array≢scalar (sym k ∙ m.kind_is))
     scalar_entry_of c a u m h z w d (of_scalar i k b p) =
         let one = m.size_is in
@@ -167,7 +167,7 @@ module _ (doc : List ℕ) where
         rw q (member_entry c ms j x v h f z w b' y)
 
     -- an Entry of type 5 names a container that stands for what the Entry stands for
-    named_by : (v : Tree) (c a : ℕ) → EntryIs doc v a → 4 ≤ c → Placed doc v c a → Subtree t v → type_of (low doc a) ≡ tContainer → Container doc t (high doc a)
+    named_by : (v : Tree) (c a : ℕ) → EntryIs doc v a → 4 ≤ c → Placed doc v c a → Subtree t v → type_of (low doc a) ≡ t_container → Container doc t (high doc a)
     named_by null c a h b p w k = absurd (let y : ◌≡◌ {A = ℕ} 0 1 = cc (h, k) in omega arith)
     named_by (bool false) c a h b p w k = absurd (let y : ◌≡◌ {A = ℕ} 0 1 = cc (h, k) in omega arith)
     named_by (bool true) c a h b p w k = absurd (let y : ◌≡◌ {A = ℕ} 0 1 = cc (h, k) in omega arith)
@@ -176,7 +176,7 @@ module _ (doc : List ℕ) where
     named_by (arr ts) c a h b p w k = record { tree = arr ts; is = h.1; placed = p.2; aligned = past_meta c _ b p.0 p.1; within = w }
     named_by (obj ms) c a h b p w k = record { tree = obj ms; is = h.1; placed = p.2; aligned = past_meta c _ b p.0 p.1; within = w }
 
-    pub entry_named : (a : ℕ) (x : Entry doc t a) → type_of (low doc a) ≡ tContainer → Container doc t (high doc a)
+    pub entry_named : (a : ℕ) (x : Entry doc t a) → type_of (low doc a) ≡ t_container → Container doc t (high doc a)
     entry_named a x k = named_by x.tree x.parent a x.is x.parent_least x.placed x.within k
 
     pub entry_in : (c a : ℕ) → Container doc t c → EntryOf doc c a → Entry doc t a

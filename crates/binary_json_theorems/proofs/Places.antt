@@ -10,7 +10,7 @@ use Rattle.json_model.specs.Reading.{ask, answers}
 use Rattle.json_model.specs.Tree.{Tree, null, bool, num, str, arr, obj, Trees, none, more, Members, end, member, size, sizem, ElementIs, MemberIs}
 use Rattle.json_model.specs.Node.{Node, leaf, list, dict, Nodes, Fields, bare, bares, barem, NodeIs, FieldIs, Within, itself, element, value}
 use Rattle.json_model.proofs.Tree.{element_at_lem, element_below, member_at_lem, member_below}
-use Rattle.binary_json_rules.specs.Areas.{word, low, high, content, kScalar, kind_of, tContainer, type_of}
+use Rattle.binary_json_rules.specs.Areas.{word, low, high, content, k_scalar, kind_of, t_container, type_of}
 use Rattle.binary_json_rules.specs.Meaning.{SlotIs, EntryIs, ContainerIs, Means}
 use Rattle.binary_json_rules.specs.TreeOf.{tree_of}
 use Rattle.binary_json_rules.specs.Leads.{EntryOf, of_array, of_scalar, of_object, Leads, root, named}
@@ -194,7 +194,7 @@ module _ (doc : List ℕ) (t : Tree) (m : Means doc t) where
       let e : x ≡ v = entry_one doc (c + 4 + 4 * sizem ms + 4 * j) x v (member_is_lem doc ms j 0 (c + 4) _ k x h.1 y) is in
       rw (← e) (value c (field_nodes doc ms (c + 4) (c + 4 + 4 * sizem ms)) j (c + 4 + 4 * j) k w (field_node doc ms j (c + 4) (c + 4 + 4 * sizem ms) k x y))
 
-  in_scalar : (c a : ℕ) (u v : Tree) → kind_of (low doc c) ≡ kScalar → high doc c ≡ 1 → EntryIs doc u (c + 4) → Within (binary_node doc) (entry_node doc u (c + 4)) → EntryOf doc c a
+  in_scalar : (c a : ℕ) (u v : Tree) → kind_of (low doc c) ≡ k_scalar → high doc c ≡ 1 → EntryIs doc u (c + 4) → Within (binary_node doc) (entry_node doc u (c + 4)) → EntryOf doc c a
       → EntryIs doc v a → Within (binary_node doc) (entry_node doc v a)
   in_scalar c a u v s n h w (of_array i k b p) is = absurd (clash cc)
   in_scalar c a u v s n h w (of_scalar i k b p) is =
@@ -226,7 +226,7 @@ module _ (doc : List ℕ) (t : Tree) (m : Means doc t) where
       rw q (in_object c ms j x u v h w y (rw q at is))
 
   -- a container that an Entry names
-  by_entry : (a : ℕ) (v u : Tree) → EntryIs doc v a → type_of (low doc a) ≡ tContainer → ContainerIs doc u (high doc a) → Within (binary_node doc) (entry_node doc v a)
+  by_entry : (a : ℕ) (v u : Tree) → EntryIs doc v a → type_of (low doc a) ≡ t_container → ContainerIs doc u (high doc a) → Within (binary_node doc) (entry_node doc v a)
       → Within (binary_node doc) (container_node doc u (high doc a))
   unfolding container_node entry_node
   by_entry a null u h k is w = absurd (clash cc)

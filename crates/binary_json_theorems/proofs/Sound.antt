@@ -19,7 +19,7 @@ use Rattle.json_model.specs.declared.Order.{Order}
 use Rattle.json_model.specs.declared.Order.TheVariants.{Below, Equal, Above}
 use Rattle.json_model.specs.Tree.{Tree, null, bool, num, str, arr, obj, Trees, none, more, Members, end, member, size, sizem, depth, depths, depthm, IsContainer}
 use Rattle.json_model.proofs.Reading.{halt≢done, done_answer, done_kept, step, passed, need_done, need_yes, then, assoc}
-use Rattle.binary_json_rules.specs.Areas.{word, low, high, index, count, slot, content, numbers, Kind, kArray, kObject, kScalar, kOther, kind_of, EntryType, tFalse, tTrue, tNull, tString, tNumber, tContainer, tOther, type_of}
+use Rattle.binary_json_rules.specs.Areas.{word, low, high, index, count, slot, content, numbers, Kind, k_array, k_object, k_scalar, k_other, kind_of, EntryType, t_false, t_true, t_null, t_string, t_number, t_container, t_other, type_of}
 use Rattle.binary_json_rules.specs.Meaning.{SlotIs, NumberIs, Meta, EntryIs, EntriesAre, MembersAre, ContainerIs, Placed, PlacedAll, PlacedMembers, PlacedUnder, within, bodies, bodies_all, bodies_members, bodies_from, Tiles, SlotGood, Means}
 use Rattle.binary_json_rules.specs.Verdict.{header, ascends, slot_rules, slots, slot_named, number_named, key_entries, entry_by, entry, entries, mark_body, container_by, container, scalar, root_by, lent, all_marked, check}
 use Rattle.binary_json_rules.specs.Marks.{words, word_place, word_at, clear, fill, unmarked}
@@ -88,7 +88,7 @@ module _ {S B : Type 0} (doc : List ℕ) (f : Unit {0} → Reading S B) (s : S) 
 
 -- ---- Entries, KeyEntries and containers; `child` is any reader that finds what it reads
 
-as_entry : (doc : List ℕ) (l : ℕ) (t : Tree) (c a : ℕ) (ms ns : List ℕ) → type_of (low doc a) ≡ tContainer → high doc a % 4 ≡ 0 → c < high doc a
+as_entry : (doc : List ℕ) (l : ℕ) (t : Tree) (c a : ℕ) (ms ns : List ℕ) → type_of (low doc a) ≡ t_container → high doc a % 4 ≡ 0 → c < high doc a
     → BodyIs doc t (high doc a) → Left doc ms ns (bodies_from doc t (high doc a)) → depth t ≤ l → FoundEntry doc l c a ms ns
 as_entry doc l null c a ms ns k s p b x z = absurd b.0
 as_entry doc l (bool x) c a ms ns k s p b y z = absurd b.0
@@ -146,24 +146,24 @@ module _ (doc : List ℕ) (child : ℕ → Reading (List ℕ) (Unit {0})) (l : �
   entry_by_lem : (c a : ℕ) (ms : List ℕ) {u : Unit {0}} {ns : List ℕ} (k : EntryType) → 4 ≤ c → words doc ≤ length ms → type_of (low doc a) ≡ k → entry_by doc child c a k ms ≡ done u ns
       → FoundEntry doc l c a ms ns
   unfolding entry_by float_tree
-  entry_by_lem c a ms tFalse b e k h = record { tree = bool false; is = k; placed = tt; left = nothing_left (done_kept h); shallow = omega arith }
-  entry_by_lem c a ms tTrue b e k h = record { tree = bool true; is = k; placed = tt; left = nothing_left (done_kept h); shallow = omega arith }
-  entry_by_lem c a ms tNull b e k h = record { tree = null; is = k; placed = tt; left = nothing_left (done_kept h); shallow = omega arith }
-  entry_by_lem c a ms tString b e k h =
+  entry_by_lem c a ms t_false b e k h = record { tree = bool false; is = k; placed = tt; left = nothing_left (done_kept h); shallow = omega arith }
+  entry_by_lem c a ms t_true b e k h = record { tree = bool true; is = k; placed = tt; left = nothing_left (done_kept h); shallow = omega arith }
+  entry_by_lem c a ms t_null b e k h = record { tree = null; is = k; placed = tt; left = nothing_left (done_kept h); shallow = omega arith }
+  entry_by_lem c a ms t_string b e k h =
       let (j, is, r) = slot_only doc _ _ _ ms h in
       record { tree = str (content doc j); is = (j, k, is, refl); placed = tt; left = nothing_left r; shallow = omega arith }
-  entry_by_lem c a ms tNumber b e k h =
+  entry_by_lem c a ms t_number b e k h =
       let (j, is, fin, r) = number_only doc _ _ _ ms h in
       let bits = number doc (high doc a) 8 in
       record { tree = num (negative binary64 bits) (magnitude binary64 bits); is = (j, k, is, fin, refl); placed = tt; left = nothing_left r; shallow = omega arith }
-  entry_by_lem c a ms tContainer b e k h =
+  entry_by_lem c a ms t_container b e k h =
       let p1 = passed _ _ _ _ ms h in
       let p2 = passed _ _ _ _ ms p1.rest in
       let s : high doc a % 4 ≡ 0 = eqb→eq _ _ p1.test in
       let p : c < high doc a = ltb→lt _ _ p2.test in
       let x = ih (high doc a) ms _ _ (past_meta c _ b s p) e p2.rest in
       as_entry doc l x.tree c a ms _ k s p x.is x.left x.shallow
-  entry_by_lem c a ms tOther b e k h = absurd (halt≢done h)
+  entry_by_lem c a ms t_other b e k h = absurd (halt≢done h)
 
   entry_sound : (c a : ℕ) (ms : List ℕ) {u : Unit {0}} {ns : List ℕ} → 4 ≤ c → words doc ≤ length ms → entry doc child c a ms ≡ done u ns → FoundEntry doc l c a ms ns
   unfolding entry
@@ -215,7 +215,7 @@ module _ (doc : List ℕ) (child : ℕ → Reading (List ℕ) (Unit {0})) (l : �
   body_sound : (o n : ℕ) (ms : List ℕ) {u : Unit {0}} {ns : List ℕ} (k : Kind) → Aligned o → words doc ≤ length ms → kind_of (low doc o) ≡ k → high doc o ≡ n
       → container_by doc child o n k ms ≡ done u ns → FoundBody doc (suc l) o ms ns
   unfolding container_by
-  body_sound o n ms kArray z e hk hn h =
+  body_sound o n ms k_array z e hk hn h =
       let p = passed _ _ _ _ ms h in
       let fits : o + 4 + 4 * n ≤ index doc = leb→le _ _ p.test in
       let x = mark_sound doc o (1 + n) _ ms z (omega arith) e p.rest in
@@ -227,7 +227,7 @@ module _ (doc : List ℕ) (child : ℕ → Reading (List ℕ) (Unit {0})) (l : �
         left = array_left doc o n ts.trees ts.many x.left ts.left;
         shallow = shallow;
       }
-  body_sound o n ms kObject z e hk hn h =
+  body_sound o n ms k_object z e hk hn h =
       let p = passed _ _ _ _ ms h in
       let fits : o + 4 + 4 * (2 * n) ≤ index doc = leb→le _ _ p.test in
       let x = mark_sound doc o (1 + 2 * n) _ ms z (omega arith) e p.rest in
@@ -242,8 +242,8 @@ module _ (doc : List ℕ) (child : ℕ → Reading (List ℕ) (Unit {0})) (l : �
         left = object_left doc o n os.members os.many same x.left os.left;
         shallow = shallow;
       }
-  body_sound o n ms kScalar z e hk hn h = absurd (halt≢done h)
-  body_sound o n ms kOther z e hk hn h = absurd (halt≢done h)
+  body_sound o n ms k_scalar z e hk hn h = absurd (halt≢done h)
+  body_sound o n ms k_other z e hk hn h = absurd (halt≢done h)
 
 record FoundRoot (doc ms ns : List ℕ) : Type 0 where
   tree : Tree
@@ -252,7 +252,7 @@ record FoundRoot (doc ms ns : List ℕ) : Type 0 where
   left : Left doc ms ns (bodies_from doc tree 4)
   shallow : depth tree ≤ deepest
 
-root_scalar : (doc ms ns os : List ℕ) (t : Tree) → depth t ≤ 0 → Meta doc 4 kScalar 1 1 → EntryIs doc t 8 → Left doc ms ns (within 4 2) → Left doc ns os (bodies doc t 8) → FoundRoot doc ms os
+root_scalar : (doc ms ns os : List ℕ) (t : Tree) → depth t ≤ 0 → Meta doc 4 k_scalar 1 1 → EntryIs doc t 8 → Left doc ms ns (within 4 2) → Left doc ns os (bodies doc t 8) → FoundRoot doc ms os
 root_scalar doc ms ns os t d m h x y = go t d h y
   where
     alone : Left doc ns os (λ k. 0) → Left doc ms os (within 4 2)
@@ -305,17 +305,17 @@ module _ (doc : List ℕ) where
 
   root_sound : (ms : List ℕ) {u : Unit {0}} {ns : List ℕ} (k : Kind) → words doc ≤ length ms → kind_of (low doc 4) ≡ k → root_by doc k ms ≡ done u ns → FoundRoot doc ms ns
   unfolding root_by scalar
-  root_sound ms kArray e k h = root_whole ms e h
-  root_sound ms kObject e k h = root_whole ms e h
-  root_sound ms kScalar e k h =
+  root_sound ms k_array e k h = root_whole ms e h
+  root_sound ms k_object e k h = root_whole ms e h
+  root_sound ms k_scalar e k h =
       let p1 = passed _ _ _ _ ms h in
       let p2 = passed _ _ _ _ ms p1.rest in
       let fits : 12 ≤ index doc = leb→le _ _ p2.test in
-      let m : Meta doc 4 kScalar 1 1 = record { kind_is = k; size_is = eqb→eq _ _ p1.test; inside = fits } in
+      let m : Meta doc 4 k_scalar 1 1 = record { kind_is = k; size_is = eqb→eq _ _ p1.test; inside = fits } in
       let x = mark_sound doc 4 2 _ ms root_aligned (omega arith) e p2.rest in
       let t = entry_sound doc (λ o. refuse 9 8) 0 (λ o s v z a b x. absurd (halt≢done x)) 4 8 x.mid (omega arith) (still_enough doc ms _ _ x.left e) x.rest in
       root_scalar doc ms x.mid _ t.tree t.shallow m t.is x.left t.left
-  root_sound ms kOther e k h = root_whole ms e h
+  root_sound ms k_other e k h = root_whole ms e h
 
 module _ {S : Type 0} (doc : List ℕ) where
   -- ---- slots

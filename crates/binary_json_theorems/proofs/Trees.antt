@@ -29,10 +29,10 @@ module _ (doc : List ℕ) where
     unfolding entry_tree entry_tree_by entry_trees member_trees container_tree container_tree_by
 
     pub entry_tree_lem : (t : Tree) (l a : ℕ) → EntryIs doc t a → depth t ≤ l → entry_tree doc (container_tree l doc) a ≡ t
-    entry_tree_lem null l a h z = plain_tree null _ a (omega arith) h
-    entry_tree_lem (bool b) l a h z = plain_tree (bool b) _ a (omega arith) h
-    entry_tree_lem (num s m) l a h z = plain_tree (num s m) _ a (omega arith) h
-    entry_tree_lem (str s) l a h z = plain_tree (str s) _ a (omega arith) h
+    entry_tree_lem null l a h z = plain_tree null (container_tree l doc) a (omega arith) h
+    entry_tree_lem (bool b) l a h z = plain_tree (bool b) (container_tree l doc) a (omega arith) h
+    entry_tree_lem (num s m) l a h z = plain_tree (num s m) (container_tree l doc) a (omega arith) h
+    entry_tree_lem (str s) l a h z = plain_tree (str s) (container_tree l doc) a (omega arith) h
     entry_tree_lem (arr ts) zero a h z = absurd (omega arith)
     entry_tree_lem (arr ts) (suc l) a h z =
         let m = h.1.0 in

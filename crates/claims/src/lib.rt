@@ -1,6 +1,8 @@
 // The promises of both readers, kept by their own calls. Each function makes calls and hands back what they answered;
 // its contract is what specs/Promises.antt promises of the answers, and is proved from the contracts of the calls
 // alone. No function here has a `requires`, so no call that it makes has one. Nothing here is meant to be run.
+#![tactic(auto)]
+
 ghost use Rattle.claims.specs.Promises.{CheckBinary, CheckBinaryTwice, AskBinary, LookUpBinary, BinaryStringText, BinarySlotText};
 ghost use Rattle.claims.specs.Promises.{CheckList, AskFractured, CheckAndAskFractured, FracturedStringText, FracturedKeyText, MemberKeyText};
 ghost use Rattle.claims.specs.Promises.{CompareTexts, BenchLine, BenchTotal};

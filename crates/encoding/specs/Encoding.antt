@@ -74,12 +74,12 @@ counted l = counted_by l.first l.second l.answer
 -- kind (0 null, 1 false, 2 true, 3 number, 4 string, 5 object, 6 array), and the length of a string or container
 abbrev pub kind : Fractured.Kind → List ℕ
 kind Fractured.is_null = 0 ∷ []
-kind Fractured.isFalse = 1 ∷ []
-kind Fractured.isTrue = 2 ∷ []
+kind Fractured.is_false = 1 ∷ []
+kind Fractured.is_true = 2 ∷ []
 kind Fractured.is_number = 3 ∷ []
-kind (Fractured.isString n) = 4 ∷ n ∷ []
-kind (Fractured.isObject n) = 5 ∷ n ∷ []
-kind (Fractured.isArray n) = 6 ∷ n ∷ []
+kind (Fractured.is_string n) = 4 ∷ n ∷ []
+kind (Fractured.is_object n) = 5 ∷ n ∷ []
+kind (Fractured.is_array n) = 6 ∷ n ∷ []
 
 -- type byte and 64 bits
 abbrev pub bits : Fractured.Bits → List ℕ
@@ -96,8 +96,8 @@ value_at Fractured.absent = 0 ∷ []
 
 -- 0 the document, 1 the key list
 abbrev pub lender_of : Fractured.Lender → ℕ
-lender_of Fractured.theDocument = 0
-lender_of Fractured.theList = 1
+lender_of Fractured.the_document = 0
+lender_of Fractured.the_list = 1
 
 -- lender, the text's place and length there, and where the value starts
 abbrev pub key_at : Fractured.KeyRead → List ℕ

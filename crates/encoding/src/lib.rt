@@ -1,4 +1,6 @@
 // Answers as numbers: what is returned, and what is written over the lent words.
+#![tactic(auto)]
+
 pub mod binary;
 pub mod fractured;
 pub mod texts;

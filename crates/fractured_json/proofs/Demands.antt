@@ -18,7 +18,7 @@ use Rattle.fractured_json_rules.specs.KeyList.{key_list}
 use Rattle.fractured_json_rules.specs.Verdict.{verdict}
 use Rattle.fractured_json_rules.specs.KeyTable.{room_of, key_of, checked_by, checked}
 use Rattle.fractured_json_rules.specs.Leads.{Leads, StandsFor}
-use Rattle.fractured_json_rules.specs.Questions.{Lender, theDocument, theList, KeyRead, lent, end_of, kind, number_at, string_at, string_bytes, element_at, member_at, first_member, key_at, key_bytes}
+use Rattle.fractured_json_rules.specs.Questions.{Lender, the_document, the_list, KeyRead, lent, end_of, kind, number_at, string_at, string_bytes, element_at, member_at, first_member, key_at, key_bytes}
 use Rattle.fractured_json_rules.specs.Questions as Questions
 use Rattle.fractured_json_rules.specs.Answers.{kind_of, value_of}
 use Rattle.fractured_json_theorems.proofs.KeyList.{list_exactly}
@@ -49,12 +49,12 @@ place_is_lem (Place.Refused r) = refl
 abbrev kind_is_lem : Asked Questions.Kind → Kind
 kind_is_lem (halt n p u) = Kind.Refused (refusal n p)
 kind_is_lem (done Questions.is_null u) = Kind.Null
-kind_is_lem (done Questions.isFalse u) = Kind.False
-kind_is_lem (done Questions.isTrue u) = Kind.True
+kind_is_lem (done Questions.is_false u) = Kind.False
+kind_is_lem (done Questions.is_true u) = Kind.True
 kind_is_lem (done Questions.is_number u) = Kind.Number
-kind_is_lem (done (Questions.isString n) u) = Kind.String n
-kind_is_lem (done (Questions.isObject n) u) = Kind.Object n
-kind_is_lem (done (Questions.isArray n) u) = Kind.Array n
+kind_is_lem (done (Questions.is_string n) u) = Kind.String n
+kind_is_lem (done (Questions.is_object n) u) = Kind.Object n
+kind_is_lem (done (Questions.is_array n) u) = Kind.Array n
 
 kind_is : (r : Kind) → kind_is_lem (told_kind r) ≡ r
 kind_is Kind.Null = refl
@@ -102,15 +102,15 @@ found_is_lem (Found.Refused r) = refl
 
 -- a key by its lender
 abbrev pub key_by : Lender → ℕ → ℕ → ℕ → Key
-key_by theDocument place len past = Key.Document place len past
-key_by theList place len past = Key.List place len past
+key_by the_document place len past = Key.Document place len past
+key_by the_list place len past = Key.List place len past
 
 abbrev pub key_case : KeyRead → Key
 key_case k = key_by k.lender k.place k.len k.past
 
 told_by : (l : Lender) (p n e : ℕ) → told_key (key_by l p n e) ≡ answers (record { lender = l; place = p; len = n; past = e })
-told_by theDocument p n e = refl
-told_by theList p n e = refl
+told_by the_document p n e = refl
+told_by the_list p n e = refl
 
 told_case : (k : KeyRead) → told_key (key_case k) ≡ answers k
 told_case k = told_by k.lender k.place k.len k.past
@@ -246,10 +246,10 @@ module _ (doc list : List ℕ) (c n p : ℕ) where
 
     -- a text that is answered lies inside the bytes of its lender
     pub key_inside_document : (r : Key) → told_key r ≡ ask (key_at doc list words count c) → (place len past : ℕ) → r ≡ Key.Document place len past → place + len ≤ length doc
-    key_inside_document r e place len past q = Rules.key_inside doc list words count (record { lender = theDocument; place = place; len = len; past = past }) c (sym e ∙ ap told_key q)
+    key_inside_document r e place len past q = Rules.key_inside doc list words count (record { lender = the_document; place = place; len = len; past = past }) c (sym e ∙ ap told_key q)
 
     pub key_inside_list : (r : Key) → told_key r ≡ ask (key_at doc list words count c) → (place len past : ℕ) → r ≡ Key.List place len past → place + len ≤ length list
-    key_inside_list r e place len past q = Rules.key_inside doc list words count (record { lender = theList; place = place; len = len; past = past }) c (sym e ∙ ap told_key q)
+    key_inside_list r e place len past q = Rules.key_inside doc list words count (record { lender = the_list; place = place; len = len; past = past }) c (sym e ∙ ap told_key q)
 
     -- the text is a part of the bytes of the lender that `key` names
     pub key_text_lent : (k : KeyRead) (r : Key) → told_key r ≡ ask (key_at doc list words count c) → r ≡ key_case k → (t : List ℕ) → t ≡ key_bytes doc list words count c

@@ -22,8 +22,8 @@ places_say = refl
 
 pub kinds_say :
     map told_kind (Kind.Null ∷ Kind.False ∷ Kind.True ∷ Kind.Number ∷ Kind.String 7 ∷ Kind.Object 7 ∷ Kind.Array 7 ∷ Kind.Refused refusal ∷ [])
-    ≡ done Questions.is_null tt ∷ done Questions.isFalse tt ∷ done Questions.isTrue tt ∷ done Questions.is_number tt ∷ done (Questions.isString 7) tt ∷ done (Questions.isObject 7) tt
-    ∷ done (Questions.isArray 7) tt ∷ halt 21 3 tt ∷ []
+    ≡ done Questions.is_null tt ∷ done Questions.is_false tt ∷ done Questions.is_true tt ∷ done Questions.is_number tt ∷ done (Questions.is_string 7) tt ∷ done (Questions.is_object 7) tt
+    ∷ done (Questions.is_array 7) tt ∷ halt 21 3 tt ∷ []
 kinds_say = refl
 
 pub numbers_say : map told_number (Number.Is 0x0D 9 ∷ Number.Refused refusal ∷ []) ≡ done (record { type = 0x0D; bits = 9 }) tt ∷ halt 21 3 tt ∷ []
@@ -40,5 +40,5 @@ found_say = refl
 
 pub keys_say :
     map told_key (Key.Document 5 2 8 ∷ Key.List 5 2 8 ∷ Key.Refused refusal ∷ [])
-    ≡ done (record { lender = Questions.theDocument; place = 5; len = 2; past = 8 }) tt ∷ done (record { lender = Questions.theList; place = 5; len = 2; past = 8 }) tt ∷ halt 21 3 tt ∷ []
+    ≡ done (record { lender = Questions.the_document; place = 5; len = 2; past = 8 }) tt ∷ done (record { lender = Questions.the_list; place = 5; len = 2; past = 8 }) tt ∷ halt 21 3 tt ∷ []
 keys_say = refl

@@ -18,12 +18,12 @@ told_place (Place.Refused r) = refuses r.number r.place
 
 abbrev pub told_kind : Kind → Asked Questions.Kind
 told_kind Kind.Null = answers Questions.is_null
-told_kind Kind.False = answers Questions.isFalse
-told_kind Kind.True = answers Questions.isTrue
+told_kind Kind.False = answers Questions.is_false
+told_kind Kind.True = answers Questions.is_true
 told_kind Kind.Number = answers Questions.is_number
-told_kind (Kind.String n) = answers (Questions.isString n)
-told_kind (Kind.Object n) = answers (Questions.isObject n)
-told_kind (Kind.Array n) = answers (Questions.isArray n)
+told_kind (Kind.String n) = answers (Questions.is_string n)
+told_kind (Kind.Object n) = answers (Questions.is_object n)
+told_kind (Kind.Array n) = answers (Questions.is_array n)
 told_kind (Kind.Refused r) = refuses r.number r.place
 
 abbrev pub told_number : Number → Asked Questions.Bits
@@ -44,6 +44,6 @@ told_found Found.Absent = answers Questions.absent
 told_found (Found.Refused r) = refuses r.number r.place
 
 abbrev pub told_key : Key → Asked Questions.KeyRead
-told_key (Key.Document p n e) = answers (record { lender = Questions.theDocument; place = p; len = n; past = e })
-told_key (Key.List p n e) = answers (record { lender = Questions.theList; place = p; len = n; past = e })
+told_key (Key.Document p n e) = answers (record { lender = Questions.the_document; place = p; len = n; past = e })
+told_key (Key.List p n e) = answers (record { lender = Questions.the_list; place = p; len = n; past = e })
 told_key (Key.Refused r) = refuses r.number r.place

@@ -1,4 +1,6 @@
 // What the questions put to a Fractured JSON document answer. specs/Told.antt gives each case its number and values.
+#![tactic(auto)]
+
 use json_model::Refusal;
 
 // Where something stands.

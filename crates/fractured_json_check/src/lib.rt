@@ -1,4 +1,6 @@
 // The check of a Fractured JSON document with a key list and a lent key table, proved equal to its rule in `fractured_json_rules`.
+#![tactic(auto)]
+
 pub mod answers;
 mod keys;
 mod start;

@@ -19,7 +19,7 @@ use Rattle.json_model.proofs.Bytes.{number_small}
 use Rattle.json_model.proofs.Reading.{step, then, stops, pass, fail}
 use Rattle.fractured_json_rules.specs.KeyList.{key_list, name_of}
 use Rattle.fractured_json_rules.specs.Verdict.{in_turn, value}
-use Rattle.fractured_json_rules.specs.Questions.{opening, theDocument, theList, KeyRead, read_key, pass_key, inner, end_of, anObject, anArray, element_from, element_here, element_at, MemberAt, member_from, member_here, member_at, Found, find_in, first_here, first_member, key_at, key_bytes}
+use Rattle.fractured_json_rules.specs.Questions.{opening, the_document, the_list, KeyRead, read_key, pass_key, inner, end_of, an_object, an_array, element_from, element_here, element_at, MemberAt, member_from, member_here, member_at, Found, find_in, first_here, first_member, key_at, key_bytes}
 use Rattle.fractured_json_values.specs.Opened.{entry, ReadsNumeral}
 use Rattle.fractured_json_scalars.specs.Asked.{wanted_in}
 use Rattle.fractured_json_containers.specs.Asked.{ReadsKey}
@@ -46,11 +46,11 @@ module _ (doc list words : List ℕ) (count at i : ℕ) where
   module _ (c : Numeral) (cs : ReadsNumeral (length doc) (ask (wanted_in doc at 10)) c) where
     pub element_refused : (r : Refusal) → c ≡ Numeral.Refused r → refuses r.number r.place ≡ ask (element_here doc list words count at i)
     unfolding element_here
-    element_refused r q = sym (length_refused doc at anArray _ c cs r q)
+    element_refused r q = sym (length_refused doc at an_array _ c cs r q)
 
     pub element_read : (n p : ℕ) (r : Asked ℕ) → c ≡ Numeral.Is n p → r ≡ ask (element_from doc list words count at i n p) → r ≡ ask (element_here doc list words count at i)
     unfolding element_here
-    element_read n p r q e = e ∙ sym (length_read doc at anArray _ c cs n p q)
+    element_read n p r q e = e ∙ sym (length_read doc at an_array _ c cs n p q)
 
 pub ruleset element_from_laws = (element_past, element_walked, rules)
 
@@ -80,11 +80,11 @@ module _ (doc list words : List ℕ) (count at j : ℕ) where
   module _ (c : Numeral) (cs : ReadsNumeral (length doc) (ask (wanted_in doc at 9)) c) where
     pub member_refused : (r : Refusal) → c ≡ Numeral.Refused r → refuses r.number r.place ≡ ask (member_here doc list words count at j)
     unfolding member_here
-    member_refused r q = sym (length_refused doc at anObject _ c cs r q)
+    member_refused r q = sym (length_refused doc at an_object _ c cs r q)
 
     pub member_read : (n p : ℕ) (r : Asked MemberAt) → c ≡ Numeral.Is n p → r ≡ ask (member_from doc list words count at j n p) → r ≡ ask (member_here doc list words count at j)
     unfolding member_here
-    member_read n p r q e = e ∙ sym (length_read doc at anObject _ c cs n p q)
+    member_read n p r q e = e ∙ sym (length_read doc at an_object _ c cs n p q)
 
 pub ruleset member_from_laws = (member_past, members_refused, key_refused, member_found, rules)
 
@@ -95,11 +95,11 @@ pub ruleset member_here_laws = (member_refused, member_read, rules)
 module _ (doc list words : List ℕ) (count at : ℕ) (x : List ℕ) (c : Numeral) (cs : ReadsNumeral (length doc) (ask (wanted_in doc at 9)) c) where
   pub find_refused : (r : Refusal) → c ≡ Numeral.Refused r → refuses r.number r.place ≡ ask (first_here doc list words count at x)
   unfolding first_here
-  find_refused r q = sym (length_refused doc at anObject _ c cs r q)
+  find_refused r q = sym (length_refused doc at an_object _ c cs r q)
 
   pub find_read : (n p : ℕ) (r : Asked Found) → c ≡ Numeral.Is n p → r ≡ ask (find_in doc list words count x n p) → r ≡ ask (first_here doc list words count at x)
   unfolding first_here
-  find_read n p r q e = e ∙ sym (length_read doc at anObject _ c cs n p q)
+  find_read n p r q e = e ∙ sym (length_read doc at an_object _ c cs n p q)
 
 pub ruleset first_here_laws = (find_refused, answer_names, find_read, rules)
 
@@ -110,7 +110,7 @@ module _ (doc list words : List ℕ) (count at : ℕ) (k : KeyText) (ks : ReadsK
   key_unread r q = let w : ReadsKey list (ask (read_key doc list words count at)) (KeyText.Refused r) = rw q at ks in sym w
 
   pub key_in_document : (s l p : ℕ) → k ≡ KeyText.At s l p
-      → answers (record { lender = theDocument; place = s; len = l; past = p }) ≡ ask (read_key doc list words count at)
+      → answers (record { lender = the_document; place = s; len = l; past = p }) ≡ ask (read_key doc list words count at)
   key_in_document s l p q = let w : ReadsKey list (ask (read_key doc list words count at)) (KeyText.At s l p) = rw q at ks in sym w
 
   pub name_number : (j p : ℕ) → k ≡ KeyText.Name j p → ((i : ℕ) → Fits w8 (get_or list i 0)) → j < 65_536
@@ -121,7 +121,7 @@ module _ (doc list words : List ℕ) (count at : ℕ) (k : KeyText) (ks : ReadsK
       omega arith
 
   pub key_in_list : (j p : ℕ) → k ≡ KeyText.Name j p → (s l : ℕ) → s ≡ (name_of list j).start → l ≡ (name_of list j).len
-      → answers (record { lender = theList; place = s; len = l; past = p }) ≡ ask (read_key doc list words count at)
+      → answers (record { lender = the_list; place = s; len = l; past = p }) ≡ ask (read_key doc list words count at)
   key_in_list j p q s l a b = let w : ReadsKey list (ask (read_key doc list words count at)) (KeyText.Name j p) = rw q at ks in rw (a, b) (sym w.0)
 
 pub ruleset key_here_laws = (key_unread, key_in_document, name_number, key_in_list, rules)

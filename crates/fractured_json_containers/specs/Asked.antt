@@ -3,7 +3,7 @@ use Rattle.std.specs.Prelude.{ℕ, ◌-◌, ◌<◌, Bool, true, false, List, �
 use Rattle.json_model.specs.Reading.{Asked, ask, answers, refuses}
 use Rattle.json_model.specs.Texts.{compare_texts, is_equal}
 use Rattle.fractured_json_rules.specs.KeyList.{count_in, name_of}
-use Rattle.fractured_json_rules.specs.Questions.{theDocument, theList, KeyRead, text_in, read_key, value_at, absent, find_from}
+use Rattle.fractured_json_rules.specs.Questions.{the_document, the_list, KeyRead, text_in, read_key, value_at, absent, find_from}
 use Rattle.fractured_json_containers.specs.declared.skip.KeyText.{KeyText}
 use Rattle.fractured_json_containers.specs.declared.lookup.Compared.{Compared}
 use Rattle.fractured_json_containers.specs.declared.lookup.Look.{Look}
@@ -12,10 +12,10 @@ use Rattle.fractured_json_containers.specs.declared.lookup.Look.{Look}
 
 -- a key in the document, and one that is name j of the key list
 abbrev pub in_document : ℕ → ℕ → ℕ → KeyRead
-in_document start len past = record { lender = theDocument; place = start; len = len; past = past }
+in_document start len past = record { lender = the_document; place = start; len = len; past = past }
 
 abbrev pub in_list : List ℕ → ℕ → ℕ → KeyRead
-in_list list j past = record { lender = theList; place = (name_of list j).start; len = (name_of list j).len; past = past }
+in_list list j past = record { lender = the_list; place = (name_of list j).start; len = (name_of list j).len; past = past }
 
 -- the number of a name is under the count
 abbrev pub ReadsKey : List ℕ → Asked KeyRead → KeyText → Type 0

@@ -1,5 +1,7 @@
 // The key list of Fractured JSON: its own check, proved equal to its rules in `fractured_json_rules`, how many names it has,
 // where each of them stands, and which of them has a text.
+#![tactic(auto)]
+
 pub mod names;
 mod room;
 mod walk;

@@ -35,8 +35,8 @@ use Rattle.fractured_json_rules.specs.Leads.{element_place, key_place, Leads, ro
 use Rattle.fractured_json_rules.specs.Answers as Answers
 use Rattle.fractured_json_rules.specs.Answers.{kind_of, value_of}
 use Rattle.fractured_json_rules.specs.Places.{contents_by, value_node, fractured_node, Stands}
-use Rattle.fractured_json_rules.specs.Questions.{opening, theDocument, theList, KeyRead, text_key, back_key, name_key, read_key, pass_key, end_of, Kind, is_null, isFalse, isTrue, is_number}
-use Rattle.fractured_json_rules.specs.Questions.{isString, isObject, isArray, kind_by, kind_here, kind, number_by, number_here, wanted_by, wanted_here, string_here, string_bytes}
+use Rattle.fractured_json_rules.specs.Questions.{opening, the_document, the_list, KeyRead, text_key, back_key, name_key, read_key, pass_key, end_of, Kind, is_null, is_false, is_true, is_number}
+use Rattle.fractured_json_rules.specs.Questions.{is_string, is_object, is_array, kind_by, kind_here, kind, number_by, number_here, wanted_by, wanted_here, string_here, string_bytes}
 use Rattle.fractured_json_rules.specs.Questions.{element_from, element_here, member_from, member_here, Found, value_at, find_from, find_in, first_here, first_member, key_bytes}
 use Rattle.fractured_json_rules.specs.Questions as Questions
 
@@ -363,7 +363,7 @@ too_long room doc list good h =
 
 -- a question with its cursor
 pub data Question : Type 0 where
-  end_at kind_at number_at string_at stringBytesAt key_at keyBytesAt : ℕ → Question
+  end_at kind_at number_at string_at string_bytes_at key_at key_bytes_at : ℕ → Question
   element_at member_at : ℕ → ℕ → Question
   first_member_of : ℕ → List ℕ → Question
 
@@ -392,12 +392,12 @@ put doc list table count (end_at c) = reply place_is (ask (end_of doc list table
 put doc list table count (kind_at c) = reply kind_is_lem (ask (kind doc list c))
 put doc list table count (number_at c) = reply (λ b. bits_are b.type b.bits) (ask (Questions.number_at doc list c))
 put doc list table count (string_at c) = reply (λ s. span_is s.place s.len) (ask (Questions.string_at doc list c))
-put doc list table count (stringBytesAt c) = bytes_are (string_bytes doc list c)
+put doc list table count (string_bytes_at c) = bytes_are (string_bytes doc list c)
 put doc list table count (element_at c i) = reply place_is (ask (Questions.element_at doc list table count c i))
 put doc list table count (member_at c j) = reply (λ p. places_are p.key p.value) (ask (Questions.member_at doc list table count c j))
 put doc list table count (first_member_of c x) = reply found_at (ask (first_member doc list table count c x))
 put doc list table count (key_at c) = reply key_is (ask (Questions.key_at doc list table count c))
-put doc list table count (keyBytesAt c) = bytes_are (key_bytes doc list table count c)
+put doc list table count (key_bytes_at c) = bytes_are (key_bytes doc list table count c)
 
 record Line : Type 0 where
   doc : List ℕ
@@ -420,10 +420,10 @@ line = line_with no_names
 
 -- a key: its text's place and length in the document or in the key list, and where it ends
 abbrev in_document : ℕ → ℕ → ℕ → Answer
-in_document place len past = key_is (record { lender = theDocument; place = place; len = len; past = past })
+in_document place len past = key_is (record { lender = the_document; place = place; len = len; past = past })
 
 abbrev in_list : ℕ → ℕ → ℕ → Answer
-in_list place len past = key_is (record { lender = theList; place = place; len = len; past = past })
+in_list place len past = key_is (record { lender = the_list; place = place; len = len; past = past })
 
 -- ---- before every question: 51 to 54, 31 to 34, 20
 
@@ -441,15 +441,15 @@ too_short q = line (hex 3 0x464A01) [] 0 q (refused 31 3)
 abbrev openings : List Line
 openings =
     asked (end_at 3) (place_is 10) ∷ bad_list (end_at 3) (refused 51 0) ∷ asked (end_at 2) (refused 20 2) ∷
-    asked (kind_at 3) (kind_is_lem (isObject 1)) ∷ bad_list (kind_at 3) (refused 51 0) ∷ asked (kind_at 2) (refused 20 2) ∷
+    asked (kind_at 3) (kind_is_lem (is_object 1)) ∷ bad_list (kind_at 3) (refused 51 0) ∷ asked (kind_at 2) (refused 20 2) ∷
     asked (number_at 7) (bits_are 223 1) ∷ bad_list (number_at 7) (refused 51 0) ∷ asked (number_at 2) (refused 20 2) ∷
     asked (string_at 8) (span_is 9 1) ∷ bad_list (string_at 8) (refused 51 0) ∷ asked (string_at 2) (refused 20 2) ∷
-    asked (stringBytesAt 8) (bytes_are (98 ∷ [])) ∷ bad_list (stringBytesAt 8) (bytes_are []) ∷
+    asked (string_bytes_at 8) (bytes_are (98 ∷ [])) ∷ bad_list (string_bytes_at 8) (bytes_are []) ∷
     asked (element_at 6 1) (place_is 8) ∷ bad_list (element_at 6 1) (refused 51 0) ∷ asked (element_at 2 1) (refused 20 2) ∷
     asked (member_at 3 0) (places_are 4 6) ∷ bad_list (member_at 3 0) (refused 51 0) ∷ asked (member_at 2 0) (refused 20 2) ∷
     asked (first_member_of 3 (97 ∷ [])) (place_is 6) ∷ bad_list (first_member_of 3 (97 ∷ [])) (refused 51 0) ∷ asked (first_member_of 2 (97 ∷ [])) (refused 20 2) ∷
     asked (key_at 4) (in_document 5 1 6) ∷ bad_list (key_at 4) (refused 51 0) ∷ asked (key_at 2) (refused 20 2) ∷
-    asked (keyBytesAt 4) (bytes_are (97 ∷ [])) ∷ bad_list (keyBytesAt 4) (bytes_are []) ∷
+    asked (key_bytes_at 4) (bytes_are (97 ∷ [])) ∷ bad_list (key_bytes_at 4) (bytes_are []) ∷
     -- the key list before the header, and the header before the cursor
     line_with [] [] [] 0 (end_at 0) (refused 52 0) ∷
     too_short (end_at 2) ∷ too_short (kind_at 2) ∷ too_short (number_at 2) ∷ too_short (string_at 2) ∷ too_short (element_at 2 0) ∷ too_short (member_at 2 0) ∷ too_short (first_member_of 2 []) ∷
@@ -546,19 +546,19 @@ lines =
     line (hex 13 0x464A0171046100056263015802) (5 ∷ 1 ∷ 8 ∷ 6 ∷ []) 2 (key_at 11) (refused 38 11) ∷
     -- the kind
     line (hex 4 0x464A0100) [] 0 (kind_at 3) (kind_is_lem is_null) ∷
-    line (hex 4 0x464A0101) [] 0 (kind_at 3) (kind_is_lem isFalse) ∷
-    line (hex 4 0x464A0102) [] 0 (kind_at 3) (kind_is_lem isTrue) ∷
+    line (hex 4 0x464A0101) [] 0 (kind_at 3) (kind_is_lem is_false) ∷
+    line (hex 4 0x464A0102) [] 0 (kind_at 3) (kind_is_lem is_true) ∷
     line (hex 4 0x464A010C) [] 0 (kind_at 3) (kind_is_lem is_number) ∷
     line (hex 4 0x464A01BE) [] 0 (kind_at 3) (kind_is_lem is_number) ∷
-    line (hex 5 0x464A010DFF) [] 0 (kind_at 3) (kind_is_lem (isString 255)) ∷
-    line (hex 4 0x464A016D) [] 0 (kind_at 3) (kind_is_lem (isString 87)) ∷
+    line (hex 5 0x464A010DFF) [] 0 (kind_at 3) (kind_is_lem (is_string 255)) ∷
+    line (hex 4 0x464A016D) [] 0 (kind_at 3) (kind_is_lem (is_string 87)) ∷
     line (hex 5 0x464A010E00) [] 0 (kind_at 3) (refused 35 3) ∷
-    line (hex 6 0x464A010EFFFF) [] 0 (kind_at 3) (kind_is_lem (isString 65_535)) ∷
-    line (hex 8 0x464A0112FFFFFFFF) [] 0 (kind_at 3) (kind_is_lem (isObject 4_294_967_295)) ∷
-    line (hex 4 0x464A01BD) [] 0 (kind_at 3) (kind_is_lem (isArray 31)) ∷
+    line (hex 6 0x464A010EFFFF) [] 0 (kind_at 3) (kind_is_lem (is_string 65_535)) ∷
+    line (hex 8 0x464A0112FFFFFFFF) [] 0 (kind_at 3) (kind_is_lem (is_object 4_294_967_295)) ∷
+    line (hex 4 0x464A01BD) [] 0 (kind_at 3) (kind_is_lem (is_array 31)) ∷
     line (hex 4 0x464A0103) [] 0 (kind_at 3) (kind_is_lem is_number) ∷
     line (hex 4 0x464A0110) [] 0 (kind_at 3) (refused 35 3) ∷
-    line (hex 6 0x464A01140001) [] 0 (kind_at 3) (kind_is_lem (isArray 256)) ∷
+    line (hex 6 0x464A01140001) [] 0 (kind_at 3) (kind_is_lem (is_array 256)) ∷
     line (hex 7 0x464A0115000000) [] 0 (kind_at 3) (refused 35 3) ∷
     line (hex 4 0x464A01FF) [] 0 (kind_at 3) (refused 36 3) ∷
     -- the number
@@ -589,8 +589,8 @@ lines =
     line (hex 5 0x464A010E00) [] 0 (string_at 3) (refused 35 3) ∷
     line (hex 8 0x464A010E02006162) [] 0 (string_at 3) (span_is 6 2) ∷
     line (hex 7 0x464A010E020061) [] 0 (string_at 3) (refused 35 3) ∷
-    line (hex 5 0x464A011761) [] 0 (stringBytesAt 3) (bytes_are (97 ∷ [])) ∷
-    line (hex 4 0x464A0118) [] 0 (stringBytesAt 3) (bytes_are []) ∷
+    line (hex 5 0x464A011761) [] 0 (string_bytes_at 3) (bytes_are (97 ∷ [])) ∷
+    line (hex 4 0x464A0118) [] 0 (string_bytes_at 3) (bytes_are []) ∷
     -- element i: the value sought is not read, those before it are walked
     line (hex 5 0x464A019FFE) [] 0 (element_at 3 0) (place_is 4) ∷
     line (hex 8 0x464A0115FFFFFFFF) [] 0 (element_at 3 0) (place_is 8) ∷
@@ -653,19 +653,19 @@ lines =
     line (hex 8 0x464A016F00FFFF04) [] 0 (key_at 4) (refused 37 7) ∷
     line (hex 6 0x464A016F0561) [] 0 (key_at 4) (refused 35 4) ∷
     line (hex 7 0x464A016F046100) [] 0 (key_at 4) (in_document 5 1 6) ∷
-    line (hex 7 0x464A016F046100) [] 0 (keyBytesAt 4) (bytes_are (97 ∷ [])) ∷
+    line (hex 7 0x464A016F046100) [] 0 (key_bytes_at 4) (bytes_are (97 ∷ [])) ∷
     line (hex 9 0x464A01700461005701) (5 ∷ 1 ∷ []) 1 (key_at 7) (in_document 5 1 8) ∷
-    line (hex 9 0x464A01700461005701) (5 ∷ 1 ∷ []) 1 (keyBytesAt 7) (bytes_are (97 ∷ [])) ∷
+    line (hex 9 0x464A01700461005701) (5 ∷ 1 ∷ []) 1 (key_bytes_at 7) (bytes_are (97 ∷ [])) ∷
     line (hex 9 0x464A01700461005701) (5 ∷ 1 ∷ []) 0 (key_at 7) (refused 38 7) ∷
-    line (hex 9 0x464A01700461005701) (5 ∷ 1 ∷ []) 0 (keyBytesAt 7) (bytes_are []) ∷
+    line (hex 9 0x464A01700461005701) (5 ∷ 1 ∷ []) 0 (key_bytes_at 7) (bytes_are []) ∷
     -- without 39 and 40
     line (hex 10 0x464A0170046100046101) [] 0 (key_at 7) (in_document 8 1 9) ∷
     line_with two_names (hex 6 0x464A016FAB00) [] 0 (key_at 4) (in_list 5 1 5) ∷
     line_with two_names (hex 6 0x464A016FAC00) [] 0 (key_at 4) (in_list 8 1 5) ∷
     line_with two_names (hex 9 0x464A016F0281800000) [] 0 (key_at 4) (in_list 8 1 8) ∷
-    line_with two_names (hex 6 0x464A016FAC00) [] 0 (keyBytesAt 4) (bytes_are (98 ∷ [])) ∷
+    line_with two_names (hex 6 0x464A016FAC00) [] 0 (key_bytes_at 4) (bytes_are (98 ∷ [])) ∷
     line_with two_names (hex 6 0x464A016FAD00) [] 0 (key_at 4) (refused 38 4) ∷
-    line_with two_names (hex 6 0x464A016FAD00) [] 0 (keyBytesAt 4) (bytes_are []) ∷
+    line_with two_names (hex 6 0x464A016FAD00) [] 0 (key_bytes_at 4) (bytes_are []) ∷
     []
 
 pub questions_say : Say lines
@@ -785,7 +785,7 @@ as_trees =
     null ∷ bool false ∷ bool true ∷ num true 5 ∷ str (97 ∷ 98 ∷ []) ∷ arr (more null (more null (more null none))) ∷
     obj (Tree.member [] null (Tree.member (97 ∷ []) null end)) ∷ []
 
-pub kinds_are : map kind_of as_trees ≡ is_null ∷ isFalse ∷ isTrue ∷ is_number ∷ isString 2 ∷ isArray 3 ∷ isObject 2 ∷ []
+pub kinds_are : map kind_of as_trees ≡ is_null ∷ is_false ∷ is_true ∷ is_number ∷ is_string 2 ∷ is_array 3 ∷ is_object 2 ∷ []
 unfolding kind_of
 kinds_are = refl
 

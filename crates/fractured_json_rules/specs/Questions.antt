@@ -31,7 +31,7 @@ opening doc list c = do
 
 -- who lent the bytes in which a key's text stands
 pub data Lender : Type 0 where
-  theDocument theList : Lender
+  the_document the_list : Lender
 
 -- who lent a key's text, where it stands there, how long it is, and where the key ends
 pub record KeyRead : Type 0 where
@@ -42,8 +42,8 @@ pub record KeyRead : Type 0 where
 
 -- the bytes of a lender
 abbrev pub lent : List ℕ → List ℕ → Lender → List ℕ
-lent doc list theDocument = doc
-lent doc list theList = list
+lent doc list the_document = doc
+lent doc list the_list = list
 
 -- the text itself
 abbrev pub text_in : List ℕ → List ℕ → KeyRead → List ℕ
@@ -52,7 +52,7 @@ text_in doc list k = part (lent doc list k.lender) k.place k.len
 unfoldable pub text_key : {S : Type 0} → List ℕ → ℕ → Numeral → Reading S KeyRead
 text_key doc o n = do
   end ← text_at doc o n
-  answer (record { lender = theDocument; place = n.past; len = n.is; past = end })
+  answer (record { lender = the_document; place = n.past; len = n.is; past = end })
 
 -- 38 unless the number is under the count, the count not over the room, and the pair inside the document
 unfoldable pub back_key : {S : Type 0} → List ℕ → List ℕ → ℕ → ℕ → Numeral → Reading S KeyRead
@@ -60,13 +60,13 @@ back_key doc words count o n = do
   need (ltb n.is count) 38 o
   need (leb count (room_of words)) 38 o
   need (leb ((key_of words n.is).start + (key_of words n.is).len) (length doc)) 38 o
-  answer (record { lender = theDocument; place = (key_of words n.is).start; len = (key_of words n.is).len; past = n.past })
+  answer (record { lender = the_document; place = (key_of words n.is).start; len = (key_of words n.is).len; past = n.past })
 
 -- 38 unless the index is under the list's count
 unfoldable pub name_key : {S : Type 0} → List ℕ → ℕ → Numeral → Reading S KeyRead
 name_key list o n = do
   need (ltb n.is (count_in list)) 38 o
-  answer (record { lender = theList; place = (name_of list n.is).start; len = (name_of list n.is).len; past = n.past })
+  answer (record { lender = the_list; place = (name_of list n.is).start; len = (name_of list n.is).len; past = n.past })
 
 unfoldable pub read_key : {S : Type 0} → List ℕ → List ℕ → List ℕ → ℕ → ℕ → Reading S KeyRead
 read_key doc list words count o = do
@@ -95,25 +95,25 @@ end_of doc list words count c = opening doc list c >> walk deepest doc list word
 -- ---- its kind, with the length of a string or container
 
 pub data Kind : Type 0 where
-  is_null isFalse isTrue is_number : Kind
-  isString isObject isArray : ℕ → Kind
+  is_null is_false is_true is_number : Kind
+  is_string is_object is_array : ℕ → Kind
 
 unfoldable pub kind_by : {S : Type 0} → List ℕ → ℕ → Form → Reading S Kind
 kind_by doc c f_null = answer is_null
-kind_by doc c (f_bool false) = answer isFalse
-kind_by doc c (f_bool true) = answer isTrue
+kind_by doc c (f_bool false) = answer is_false
+kind_by doc c (f_bool true) = answer is_true
 kind_by doc c (f_int s w) = answer is_number
 kind_by doc c (f_float f w) = answer is_number
 kind_by doc c (f_tiny b) = answer is_number
 kind_by doc c (f_string x) = do
   n ← length_at doc c x
-  answer (isString n.is)
+  answer (is_string n.is)
 kind_by doc c (f_object x) = do
   n ← length_at doc c x
-  answer (isObject n.is)
+  answer (is_object n.is)
 kind_by doc c (f_array x) = do
   n ← length_at doc c x
-  answer (isArray n.is)
+  answer (is_array n.is)
 kind_by doc c f_reserved = refuse 36 c
 
 unfoldable pub kind_here : {S : Type 0} → List ℕ → ℕ → Reading S Kind
@@ -166,7 +166,7 @@ number_at doc list c = opening doc list c >> number_here doc c
 
 -- which of them is wanted; of any other kind 21
 pub data Wanted : Type 0 where
-  aString anObject anArray : Wanted
+  a_string an_object an_array : Wanted
 
 unfoldable pub wanted_by : {S : Type 0} → List ℕ → ℕ → Form → Wanted → Reading S Numeral
 wanted_by doc c f_null want = refuse 21 c
@@ -174,15 +174,15 @@ wanted_by doc c (f_bool b) want = refuse 21 c
 wanted_by doc c (f_int s w) want = refuse 21 c
 wanted_by doc c (f_float f w) want = refuse 21 c
 wanted_by doc c (f_tiny b) want = refuse 21 c
-wanted_by doc c (f_string x) aString = length_at doc c x
-wanted_by doc c (f_string x) anObject = refuse 21 c
-wanted_by doc c (f_string x) anArray = refuse 21 c
-wanted_by doc c (f_object x) aString = refuse 21 c
-wanted_by doc c (f_object x) anObject = length_at doc c x
-wanted_by doc c (f_object x) anArray = refuse 21 c
-wanted_by doc c (f_array x) aString = refuse 21 c
-wanted_by doc c (f_array x) anObject = refuse 21 c
-wanted_by doc c (f_array x) anArray = length_at doc c x
+wanted_by doc c (f_string x) a_string = length_at doc c x
+wanted_by doc c (f_string x) an_object = refuse 21 c
+wanted_by doc c (f_string x) an_array = refuse 21 c
+wanted_by doc c (f_object x) a_string = refuse 21 c
+wanted_by doc c (f_object x) an_object = length_at doc c x
+wanted_by doc c (f_object x) an_array = refuse 21 c
+wanted_by doc c (f_array x) a_string = refuse 21 c
+wanted_by doc c (f_array x) an_object = refuse 21 c
+wanted_by doc c (f_array x) an_array = length_at doc c x
 wanted_by doc c f_reserved want = refuse 36 c
 
 unfoldable pub wanted_here : {S : Type 0} → List ℕ → ℕ → Wanted → Reading S Numeral
@@ -194,7 +194,7 @@ wanted_here doc c want = do
 
 unfoldable pub string_here : {S : Type 0} → List ℕ → ℕ → Reading S Span
 string_here doc c = do
-  n ← wanted_here doc c aString
+  n ← wanted_here doc c a_string
   _ ← text_at doc c n
   answer (record { place = n.past; len = n.is })
 
@@ -215,7 +215,7 @@ element_from doc list words count c i n at = do
 
 unfoldable pub element_here : {S : Type 0} → List ℕ → List ℕ → List ℕ → ℕ → ℕ → ℕ → Reading S ℕ
 element_here doc list words count c i = do
-  n ← wanted_here doc c anArray
+  n ← wanted_here doc c an_array
   element_from doc list words count c i n.is n.past
 
 unfoldable pub element_at : {S : Type 0} → List ℕ → List ℕ → List ℕ → ℕ → ℕ → ℕ → Reading S ℕ
@@ -235,7 +235,7 @@ member_from doc list words count c j n at = do
 
 unfoldable pub member_here : {S : Type 0} → List ℕ → List ℕ → List ℕ → ℕ → ℕ → ℕ → Reading S MemberAt
 member_here doc list words count c j = do
-  n ← wanted_here doc c anObject
+  n ← wanted_here doc c an_object
   member_from doc list words count c j n.is n.past
 
 unfoldable pub member_at : {S : Type 0} → List ℕ → List ℕ → List ℕ → ℕ → ℕ → ℕ → Reading S MemberAt
@@ -261,7 +261,7 @@ find_in doc list words count x (suc later) at = find_from doc list words count x
 
 unfoldable pub first_here : {S : Type 0} → List ℕ → List ℕ → List ℕ → ℕ → ℕ → List ℕ → Reading S Found
 first_here doc list words count c x = do
-  n ← wanted_here doc c anObject
+  n ← wanted_here doc c an_object
   find_in doc list words count x n.is n.past
 
 unfoldable pub first_member : {S : Type 0} → List ℕ → List ℕ → List ℕ → ℕ → ℕ → List ℕ → Reading S Found

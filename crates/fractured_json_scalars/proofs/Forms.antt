@@ -11,7 +11,7 @@ use Rattle.json_model.specs.Number.{binary32, binary64, finite}
 use Rattle.json_model.specs.Reading.{halt, Reading, answer, refuse, follow, ◌>>=◌, need}
 use Rattle.fractured_json_rules.specs.ByteTables.{Width, one, two, four, eight, bytes, Form, f_null, f_bool, f_int, f_float, f_tiny, f_string, f_object, f_array, f_reserved, form_of}
 use Rattle.fractured_json_rules.specs.Verdict.{Numeral}
-use Rattle.fractured_json_rules.specs.Questions.{kind_by, isString, isObject, isArray, extended, tiny_bits, number_by, Wanted, aString, anObject, anArray, wanted_by, wanted_here}
+use Rattle.fractured_json_rules.specs.Questions.{kind_by, is_string, is_object, is_array, extended, tiny_bits, number_by, Wanted, a_string, an_object, an_array, wanted_by, wanted_here}
 use Rattle.fractured_json_values.specs.Heads.{head_of}
 use Rattle.fractured_json_values.specs.Opened.{sized_at, finite_kind}
 use Rattle.fractured_json_scalars.specs.Asked.{wanted_head, wanted_in, scalar_kind, sized_kind, kind_head, bits_of, number_kind, number_head}
@@ -23,14 +23,14 @@ tiny_bits_lem x h = let e : x - 0xBE + 0xBE ≡ x = omega arith in rw e
 
 -- the kind that is wanted, by its number; no kind under 8 is
 abbrev pub wanted_kind : Wanted → ℕ
-wanted_kind aString = 8
-wanted_kind anObject = 9
-wanted_kind anArray = 10
+wanted_kind a_string = 8
+wanted_kind an_object = 9
+wanted_kind an_array = 10
 
 not_wanted : (want : Wanted) (k : ℕ) → k < 8 → k ≡ wanted_kind want → ⊥
-not_wanted aString k h e = omega arith
-not_wanted anObject k h e = omega arith
-not_wanted anArray k h e = omega arith
+not_wanted a_string k h e = omega arith
+not_wanted an_object k h e = omega arith
+not_wanted an_array k h e = omega arith
 
 module _ {S : Type 0} (doc : List ℕ) (c : ℕ) where
   other : (want : Wanted) (k : ℕ) → k < 8 → (m : Reading S Numeral) (s : S) → halt 21 c s ≡ choose (eqb k (wanted_kind want)) m (refuse 21 c) s
@@ -51,15 +51,15 @@ module _ {S : Type 0} (doc : List ℕ) (c : ℕ) where
   wanted_form want (f_float f four) s = other want 6 (omega arith) _ s
   wanted_form want (f_float f eight) s = other want 7 (omega arith) _ s
   wanted_form want (f_tiny b) s = other want 5 (omega arith) _ s
-  wanted_form aString (f_string x) s = ap (λ m. m s) (length_sized doc c x)
-  wanted_form anObject (f_string x) s = refl
-  wanted_form anArray (f_string x) s = refl
-  wanted_form aString (f_object x) s = refl
-  wanted_form anObject (f_object x) s = ap (λ m. m s) (length_sized doc c x)
-  wanted_form anArray (f_object x) s = refl
-  wanted_form aString (f_array x) s = refl
-  wanted_form anObject (f_array x) s = refl
-  wanted_form anArray (f_array x) s = ap (λ m. m s) (length_sized doc c x)
+  wanted_form a_string (f_string x) s = ap (λ m. m s) (length_sized doc c x)
+  wanted_form an_object (f_string x) s = refl
+  wanted_form an_array (f_string x) s = refl
+  wanted_form a_string (f_object x) s = refl
+  wanted_form an_object (f_object x) s = ap (λ m. m s) (length_sized doc c x)
+  wanted_form an_array (f_object x) s = refl
+  wanted_form a_string (f_array x) s = refl
+  wanted_form an_object (f_array x) s = refl
+  wanted_form an_array (f_array x) s = ap (λ m. m s) (length_sized doc c x)
   wanted_form want f_reserved s = refl
 
   pub wanted_is : (want : Wanted) (s : S) → wanted_here doc c want s ≡ wanted_in doc c (wanted_kind want) s
@@ -80,9 +80,9 @@ module _ {S : Type 0} (doc : List ℕ) (c : ℕ) where
   kind_form (f_float f four) s = refl
   kind_form (f_float f eight) s = refl
   kind_form (f_tiny b) s = refl
-  kind_form (f_string x) s = ap (λ m. (m >>= λ n. answer (isString n.is)) s) (length_sized doc c x)
-  kind_form (f_object x) s = ap (λ m. (m >>= λ n. answer (isObject n.is)) s) (length_sized doc c x)
-  kind_form (f_array x) s = ap (λ m. (m >>= λ n. answer (isArray n.is)) s) (length_sized doc c x)
+  kind_form (f_string x) s = ap (λ m. (m >>= λ n. answer (is_string n.is)) s) (length_sized doc c x)
+  kind_form (f_object x) s = ap (λ m. (m >>= λ n. answer (is_object n.is)) s) (length_sized doc c x)
+  kind_form (f_array x) s = ap (λ m. (m >>= λ n. answer (is_array n.is)) s) (length_sized doc c x)
   kind_form f_reserved s = refl
 
   -- ---- a number

@@ -10,7 +10,7 @@ use Rattle.json_model.specs.Reading.{Asked, ask, answers, refuses}
 use Rattle.json_model.specs.declared.Refusal.{Refusal}
 use Rattle.json_model.proofs.Reading.{then, stops}
 use Rattle.fractured_json_rules.specs.ByteTables.{form_of}
-use Rattle.fractured_json_rules.specs.Questions.{Kind, is_null, isFalse, isTrue, is_number, isString, isObject, isArray, kind_by}
+use Rattle.fractured_json_rules.specs.Questions.{Kind, is_null, is_false, is_true, is_number, is_string, is_object, is_array, kind_by}
 use Rattle.fractured_json_values.specs.Heads.{head_of}
 use Rattle.fractured_json_values.specs.Opened.{sized_at, ReadsNumeral}
 use Rattle.fractured_json_scalars.specs.Asked.{scalar_kind, sized_kind, kind_head}
@@ -24,11 +24,11 @@ module _ (k : ℕ) where
   unfolding scalar_kind choose
   null_kind e = rw e
 
-  pub false_kind : k ≡ 1 → answers isFalse ≡ answers (scalar_kind k)
+  pub false_kind : k ≡ 1 → answers is_false ≡ answers (scalar_kind k)
   unfolding scalar_kind choose
   false_kind e = rw e
 
-  pub true_kind : k ≡ 2 → answers isTrue ≡ answers (scalar_kind k)
+  pub true_kind : k ≡ 2 → answers is_true ≡ answers (scalar_kind k)
   unfolding scalar_kind choose
   true_kind e = rw e
 
@@ -36,15 +36,15 @@ module _ (k : ℕ) where
   unfolding scalar_kind choose
   number_kind f g h = rw (ne_eqb k 0 f, ne_eqb k 1 g, ne_eqb k 2 h)
 
-  pub string_kind : (n : ℕ) → k ≡ 8 → answers (isString n) ≡ answers (sized_kind k n)
+  pub string_kind : (n : ℕ) → k ≡ 8 → answers (is_string n) ≡ answers (sized_kind k n)
   unfolding sized_kind choose
   string_kind n e = rw e
 
-  pub object_kind : (n : ℕ) → k ≡ 9 → answers (isObject n) ≡ answers (sized_kind k n)
+  pub object_kind : (n : ℕ) → k ≡ 9 → answers (is_object n) ≡ answers (sized_kind k n)
   unfolding sized_kind choose
   object_kind n e = rw e
 
-  pub array_kind : (n : ℕ) → (k ≡ 8 → ⊥) → (k ≡ 9 → ⊥) → answers (isArray n) ≡ answers (sized_kind k n)
+  pub array_kind : (n : ℕ) → (k ≡ 8 → ⊥) → (k ≡ 9 → ⊥) → answers (is_array n) ≡ answers (sized_kind k n)
   unfolding sized_kind choose
   array_kind n f g = rw (ne_eqb k 8 f, ne_eqb k 9 g)
 

@@ -13,7 +13,7 @@ use Rattle.json_model.specs.declared.Refusal.{Refusal}
 use Rattle.json_model.specs.declared.Verdict.{Verdict}
 use Rattle.json_model.proofs.Reading.{then, stops}
 use Rattle.fractured_json_rules.specs.ByteTables.{form_of}
-use Rattle.fractured_json_rules.specs.Questions.{opening, Kind, kind_by, kind_here, kind, Bits, number_by, number_here, number_at, aString, string_here, string_at, string_bytes}
+use Rattle.fractured_json_rules.specs.Questions.{opening, Kind, kind_by, kind_here, kind, Bits, number_by, number_here, number_at, a_string, string_here, string_at, string_bytes}
 use Rattle.fractured_json_values.specs.Opened.{ReadsNumeral}
 use Rattle.fractured_json_scalars.specs.Asked.{Enters, wanted_in}
 use Rattle.fractured_json_answers.specs.Told.{told_text}
@@ -52,20 +52,20 @@ pub ruleset number_here_laws = (entered_inside, number_refused, number_read, rul
 module _ (doc : List ℕ) (at : ℕ) (c : Numeral) (cs : ReadsNumeral (length doc) (ask (wanted_in doc at 8)) c) where
   pub string_refused : (r : Refusal) → c ≡ Numeral.Refused r → refuses r.number r.place ≡ ask (string_here doc at)
   unfolding string_here
-  string_refused r q = sym (length_refused doc at aString _ c cs r q)
+  string_refused r q = sym (length_refused doc at a_string _ c cs r q)
 
   module _ (n p : ℕ) (q : c ≡ Numeral.Is n p) where
     pub text_outside : length doc - p < n → refuses 35 at ≡ ask (string_here doc at)
     unfolding string_here
     text_outside h =
         let i = numeral_inside (length doc) _ c n p cs q in
-        sym (length_read doc at aString _ c cs n p q ∙ stops _ _ tt (text_past doc at _ tt (omega arith)))
+        sym (length_read doc at a_string _ c cs n p q ∙ stops _ _ tt (text_past doc at _ tt (omega arith)))
 
     pub text_inside : n ≤ length doc - p → answers (record { place = p; len = n }) ≡ ask (string_here doc at)
     unfolding string_here
     text_inside h =
         let i = numeral_inside (length doc) _ c n p cs q in
-        sym (length_read doc at aString _ c cs n p q ∙ then _ _ tt (text_is_lem doc at _ tt (omega arith)))
+        sym (length_read doc at a_string _ c cs n p q ∙ then _ _ tt (text_is_lem doc at _ tt (omega arith)))
 
 pub ruleset string_here_laws = (numeral_inside, string_refused, text_outside, text_inside, rules)
 

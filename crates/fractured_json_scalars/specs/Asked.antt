@@ -5,7 +5,7 @@ use Rattle.json_model.specs.Choose.{choose}
 use Rattle.json_model.specs.Reading.{Reading, ask, answers, refuses, answer, refuse, ◌>>=◌, ◌>>◌, need}
 use Rattle.fractured_json_rules.specs.ByteTables.{form_of}
 use Rattle.fractured_json_rules.specs.Verdict.{Numeral, byte_at}
-use Rattle.fractured_json_rules.specs.Questions.{Kind, is_null, isFalse, isTrue, is_number, isString, isObject, isArray, Bits, extended, tiny_bits}
+use Rattle.fractured_json_rules.specs.Questions.{Kind, is_null, is_false, is_true, is_number, is_string, is_object, is_array, Bits, extended, tiny_bits}
 use Rattle.fractured_json_values.specs.Heads.{head_of}
 use Rattle.fractured_json_values.specs.Opened.{sized_at, finite_kind}
 use Rattle.fractured_json_values.specs.declared.types.Head.{Head}
@@ -30,10 +30,10 @@ wanted_in doc c want = do
 -- ---- kinds
 
 unfoldable pub scalar_kind : ℕ → Kind
-scalar_kind kind = choose (eqb kind 0) is_null (choose (eqb kind 1) isFalse (choose (eqb kind 2) isTrue is_number))
+scalar_kind kind = choose (eqb kind 0) is_null (choose (eqb kind 1) is_false (choose (eqb kind 2) is_true is_number))
 
 unfoldable pub sized_kind : ℕ → ℕ → Kind
-sized_kind kind n = choose (eqb kind 8) (isString n) (choose (eqb kind 9) (isObject n) (isArray n))
+sized_kind kind n = choose (eqb kind 8) (is_string n) (choose (eqb kind 9) (is_object n) (is_array n))
 
 unfoldable pub kind_head : {S : Type 0} → List ℕ → ℕ → Head → Reading S Kind
 kind_head doc c h =

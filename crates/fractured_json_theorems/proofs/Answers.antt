@@ -20,7 +20,7 @@ use Rattle.fractured_json_rules.specs.Verdict.{in_turn, member, key_by}
 use Rattle.fractured_json_rules.specs.KeyTable.{room_of, key_of}
 use Rattle.fractured_json_rules.specs.TreeOf.{key_end, end_at}
 use Rattle.fractured_json_rules.specs.Leads.{FirstOf}
-use Rattle.fractured_json_rules.specs.Questions.{theDocument, theList, KeyRead, lent, text_in, text_key, back_key, name_key, read_key, pass_key, walk, inner, Found, value_at, absent, find_from, find_in}
+use Rattle.fractured_json_rules.specs.Questions.{the_document, the_list, KeyRead, lent, text_in, text_key, back_key, name_key, read_key, pass_key, walk, inner, Found, value_at, absent, find_from, find_in}
 use Rattle.fractured_json_theorems.proofs.KeyList.{name_is}
 use Rattle.fractured_json_theorems.proofs.Keys.{same_text, text_same, first_trans, first_length, first_key, grows, grows_all, grows_members, Inside, inside_at}
 use Rattle.fractured_json_theorems.proofs.Readers.{byte_is, text_is_lem, key_number_is}
@@ -67,7 +67,7 @@ module _ (doc list : List ℕ) (names : Names) (listed : Lists list names) (all 
   unfolding read_key key_by text_key back_key name_key
   reads_key t o ks e kz (as_text x n b s i y f p q) g =
       record {
-        read = record { lender = theDocument; place = b; len = n; past = b + n };
+        read = record { lender = the_document; place = b; len = n; past = b + n };
         answered =
             then _ _ tt (byte_is doc o o tt s.inside) ∙ rw s.form_is (then _ _ tt (key_number_is doc o x n b tt i) ∙ then _ _ tt (text_is_lem doc o _ tt y.inside));
         inside = y.inside;
@@ -83,7 +83,7 @@ module _ (doc list : List ℕ) (names : Names) (listed : Lists list names) (all 
       let pair = table.pair j known in
       let fits : (key_of words j).start + (key_of words j).len ≤ length doc = subst (λ (k : Key). k.start + k.len ≤ length doc) (sym pair) (inside_at doc all table.inside j known) in
       record {
-        read = record { lender = theDocument; place = (key_of words j).start; len = (key_of words j).len; past = e };
+        read = record { lender = the_document; place = (key_of words j).start; len = (key_of words j).len; past = e };
         answered =
             then _ _ tt (byte_is doc o o tt s.inside) ∙ rw s.form_is (then _ _ tt (key_number_is doc o x j e tt i)
             ∙ (pass _ _ _ _ tt (lt→ltb _ _ under) ∙ (pass _ _ _ _ tt (le→leb _ _ table.roomy) ∙ pass _ _ _ _ tt (le→leb _ _ fits))));
@@ -96,7 +96,7 @@ module _ (doc list : List ℕ) (names : Names) (listed : Lists list names) (all 
       let under : j < count_in list = omega arith in
       let (name, fits) = name_is list names listed j h in
       record {
-        read = record { lender = theList; place = (name_of list j).start; len = (name_of list j).len; past = e };
+        read = record { lender = the_list; place = (name_of list j).start; len = (name_of list j).len; past = e };
         answered =
             then _ _ tt (byte_is doc o o tt s.inside) ∙ rw s.form_is (then _ _ tt (key_number_is doc o x j e tt i) ∙ pass _ _ _ _ tt (lt→ltb _ _ under));
         inside = fits;

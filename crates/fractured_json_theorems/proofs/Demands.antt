@@ -20,7 +20,7 @@ use Rattle.fractured_json_rules.specs.KeyList.{count_in, key_list, no_names, nam
 use Rattle.fractured_json_rules.specs.KeyTable.{room_of, key_of, checked}
 use Rattle.fractured_json_rules.specs.TreeOf.{tree_of, length_in, key_end}
 use Rattle.fractured_json_rules.specs.Leads.{element_place, key_place, Leads, element, value, StandsFor}
-use Rattle.fractured_json_rules.specs.Questions.{opening, theList, KeyRead, lent, text_key, back_key, name_key, read_key, pass_key, end_of, kind, number_at, string_at, string_here, string_bytes, element_from, element_at, element_here, MemberAt}
+use Rattle.fractured_json_rules.specs.Questions.{opening, the_list, KeyRead, lent, text_key, back_key, name_key, read_key, pass_key, end_of, kind, number_at, string_at, string_here, string_bytes, element_from, element_at, element_here, MemberAt}
 use Rattle.fractured_json_rules.specs.Questions.{member_from, member_at, member_here, Found, value_at, absent, first_member, first_here, key_at, key_bytes}
 use Rattle.fractured_json_rules.specs.Answers.{kind_of, value_of}
 use Rattle.fractured_json_theorems.proofs.KeyList.{list_step, list_is, name_is}
@@ -154,7 +154,7 @@ unfolding listed_key
 index_not_found names o n ks h = fail _ _ _ _ ks (past h)
 
 pub name_found : (list : List ℕ) (o : ℕ) (n : Numeral) → n.is < count_in list
-    → ask (name_key list o n) ≡ answers (record { lender = theList; place = (name_of list n.is).start; len = (name_of list n.is).len; past = n.past })
+    → ask (name_key list o n) ≡ answers (record { lender = the_list; place = (name_of list n.is).start; len = (name_of list n.is).len; past = n.past })
 unfolding name_key
 name_found list o n h = pass _ _ _ _ tt (lt→ltb _ _ h)
 

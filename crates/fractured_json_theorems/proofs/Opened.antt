@@ -16,7 +16,7 @@ use Rattle.json_model.proofs.Reading.{halt≢done, done_answer, step, passed, ne
 use Rattle.fractured_json_rules.specs.ByteTables.{bytes, Len, tiny, after, Form, f_null, f_bool, f_int, f_float, f_tiny, f_string, f_object, f_array, f_reserved, form_of, KeyForm, immediate, back_reference, global_index, k_reserved, key_form_of}
 use Rattle.fractured_json_rules.specs.Meaning.{after_length}
 use Rattle.fractured_json_rules.specs.Verdict.{Numeral, numeral, payload, length_at, text_at, in_turn, member, value_by, value, key_by}
-use Rattle.fractured_json_rules.specs.Questions.{opening, KeyRead, text_in, text_key, back_key, name_key, read_key, pass_key, walk, inner, end_of, kind_here, kind, number_here, number_at, Wanted, aString, anObject, anArray, wanted_by, wanted_here, string_here, string_at}
+use Rattle.fractured_json_rules.specs.Questions.{opening, KeyRead, text_in, text_key, back_key, name_key, read_key, pass_key, walk, inner, end_of, kind_here, kind, number_here, number_at, Wanted, a_string, an_object, an_array, wanted_by, wanted_here, string_here, string_at}
 use Rattle.fractured_json_rules.specs.Questions.{element_from, element_here, element_at, MemberAt, member_from, member_here, member_at, value_at, absent, find_from, find_in, first_here, first_member, key_at}
 use Rattle.fractured_json_theorems.proofs.Nodes.{after_forward, key_number_forward}
 use Rattle.fractured_json_theorems.proofs.Readers.{byte_step, payload_step, length_step, text_step, key_number_step}
@@ -95,15 +95,15 @@ module _ (doc : List ℕ) where
   wanted_form o (f_int s w) want n q = absurd (halt≢done q)
   wanted_form o (f_float f w) want n q = absurd (halt≢done q)
   wanted_form o (f_tiny b) want n q = absurd (halt≢done q)
-  wanted_form o (f_string x) aString n q = length_forward o x n q
-  wanted_form o (f_string x) anObject n q = absurd (halt≢done q)
-  wanted_form o (f_string x) anArray n q = absurd (halt≢done q)
-  wanted_form o (f_object x) aString n q = absurd (halt≢done q)
-  wanted_form o (f_object x) anObject n q = length_forward o x n q
-  wanted_form o (f_object x) anArray n q = absurd (halt≢done q)
-  wanted_form o (f_array x) aString n q = absurd (halt≢done q)
-  wanted_form o (f_array x) anObject n q = absurd (halt≢done q)
-  wanted_form o (f_array x) anArray n q = length_forward o x n q
+  wanted_form o (f_string x) a_string n q = length_forward o x n q
+  wanted_form o (f_string x) an_object n q = absurd (halt≢done q)
+  wanted_form o (f_string x) an_array n q = absurd (halt≢done q)
+  wanted_form o (f_object x) a_string n q = absurd (halt≢done q)
+  wanted_form o (f_object x) an_object n q = length_forward o x n q
+  wanted_form o (f_object x) an_array n q = absurd (halt≢done q)
+  wanted_form o (f_array x) a_string n q = absurd (halt≢done q)
+  wanted_form o (f_array x) an_object n q = absurd (halt≢done q)
+  wanted_form o (f_array x) an_array n q = length_forward o x n q
   wanted_form o f_reserved want n q = absurd (halt≢done q)
 
   wanted_forward : (o : ℕ) (want : Wanted) (n : Numeral) → ask (wanted_here doc o want) ≡ answers n → o ≤ n.past
@@ -153,7 +153,7 @@ module _ (doc : List ℕ) where
     unfolding element_here element_from
     element_forward o i e q =
         let s = step _ _ tt q in
-        let f = wanted_forward o anArray s.got s.first in
+        let f = wanted_forward o an_array s.got s.first in
         let g = in_turn_lem (walk inner doc list words count) (walk_forward inner) i s.got.past e (passed _ _ _ _ tt s.rest).rest in
         omega arith
 
@@ -161,7 +161,7 @@ module _ (doc : List ℕ) where
     unfolding member_here member_from
     member_forward o j a q =
         let s = step _ _ tt q in
-        let f = wanted_forward o anObject s.got s.first in
+        let f = wanted_forward o an_object s.got s.first in
         let t = step _ _ tt (passed _ _ _ _ tt s.rest).rest in
         let g = in_turn_lem (member (pass_key doc list words count) (walk inner doc list words count)) (in_member _ _ pass_forward (walk_forward inner)) j s.got.past t.got t.first in
         let u = step _ _ tt t.rest in
@@ -190,7 +190,7 @@ module _ (doc : List ℕ) where
 
     pub first_forward : (o : ℕ) (x : List ℕ) (e : ℕ) → ask (first_here doc list words count o x) ≡ answers (value_at e) → o ≤ e
     unfolding first_here find_in
-    first_forward o x e q = let s = step _ _ tt q in go s.got.is s.got.past (wanted_forward o anObject s.got s.first) s.rest
+    first_forward o x e q = let s = step _ _ tt q in go s.got.is s.got.past (wanted_forward o an_object s.got s.first) s.rest
       where
         go : (n p : ℕ) → o ≤ p → ask (find_in doc list words count x n p) ≡ answers (value_at e) → o ≤ e
         go zero p f r = absurd (absent≢value (done_answer r))

@@ -15,7 +15,7 @@ use Rattle.json_model.proofs.Reading.{then, pass, need_yes}
 use Rattle.fractured_json_rules.specs.ByteTables.{bytes, form_of}
 use Rattle.fractured_json_rules.specs.Meaning.{after_length, TextIs, NumberIs, as_tiny, as_int, as_float, Names, Lists, Keys, ValueIs, Headed}
 use Rattle.fractured_json_rules.specs.Verdict.{numeral, byte_at}
-use Rattle.fractured_json_rules.specs.Questions.{opening, kind_by, kind_here, extended, tiny_bits, number_by, number_here, aString, anObject, anArray, wanted_by, wanted_here, string_here}
+use Rattle.fractured_json_rules.specs.Questions.{opening, kind_by, kind_here, extended, tiny_bits, number_by, number_here, a_string, an_object, an_array, wanted_by, wanted_here, string_here}
 use Rattle.fractured_json_rules.specs.Answers.{kind_of, value_by, value_of}
 use Rattle.fractured_json_theorems.proofs.KeyList.{list_is}
 use Rattle.fractured_json_theorems.proofs.Nodes.{value_form}
@@ -108,38 +108,38 @@ module _ (doc : List ℕ) (names : Names) where
   -- ---- the length of a string, an array and an object, and the wrong kind
 
   module _ (o : ℕ) where
-    string_length : (t : List ℕ) (ks : Keys) (e : ℕ) (kz : Keys) (v : ValueIs doc names (str t) o ks e kz) → ask (wanted_here doc o aString) ≡ answers (numeral v.1 (after_length o v.0))
+    string_length : (t : List ℕ) (ks : Keys) (e : ℕ) (kz : Keys) (v : ValueIs doc names (str t) o ks e kz) → ask (wanted_here doc o a_string) ≡ answers (numeral v.1 (after_length o v.0))
     unfolding wanted_here wanted_by
     string_length t ks e kz v = asked o _ (str t) ks e kz v ∙ rw v.2.form_is (length_is doc o v.0 v.1 tt v.3)
 
-    pub array_length : (ts : Trees) (ks : Keys) (e : ℕ) (kz : Keys) (v : ValueIs doc names (arr ts) o ks e kz) → ask (wanted_here doc o anArray) ≡ answers (numeral (size ts) (after_length o v.0))
+    pub array_length : (ts : Trees) (ks : Keys) (e : ℕ) (kz : Keys) (v : ValueIs doc names (arr ts) o ks e kz) → ask (wanted_here doc o an_array) ≡ answers (numeral (size ts) (after_length o v.0))
     unfolding wanted_here wanted_by
     array_length ts ks e kz v = asked o _ (arr ts) ks e kz v ∙ rw v.1.form_is (length_is doc o v.0 (size ts) tt v.2)
 
-    pub object_length : (ms : Members) (ks : Keys) (e : ℕ) (kz : Keys) (v : ValueIs doc names (obj ms) o ks e kz) → ask (wanted_here doc o anObject) ≡ answers (numeral (sizem ms) (after_length o v.0))
+    pub object_length : (ms : Members) (ks : Keys) (e : ℕ) (kz : Keys) (v : ValueIs doc names (obj ms) o ks e kz) → ask (wanted_here doc o an_object) ≡ answers (numeral (sizem ms) (after_length o v.0))
     unfolding wanted_here wanted_by
     object_length ms ks e kz v = asked o _ (obj ms) ks e kz v ∙ rw v.1.form_is (length_is doc o v.0 (sizem ms) tt v.2)
 
     module _ (u : Tree) (ks : Keys) (e : ℕ) (kz : Keys) (v : ValueIs doc names u o ks e kz) where
-      pub no_string : NoString u → ask (wanted_here doc o aString) ≡ refuses 21 o
+      pub no_string : NoString u → ask (wanted_here doc o a_string) ≡ refuses 21 o
       unfolding wanted_here wanted_by
       no_string n =
           asked o _ u ks e kz v
-          ∙ value_form doc names (λ f. ask (wanted_by doc o f aString) ≡ refuses 21 o) u o ks e kz v
+          ∙ value_form doc names (λ f. ask (wanted_by doc o f a_string) ≡ refuses 21 o) u o ks e kz v
           (λ _. refl) (λ b _. refl) (λ s m _. (λ b. refl, λ g w. refl, λ f w. refl)) (λ t x q. absurd (n t q)) (λ ts x _. refl) (λ ms x _. refl)
 
-      pub no_array : NoArray u → ask (wanted_here doc o anArray) ≡ refuses 21 o
+      pub no_array : NoArray u → ask (wanted_here doc o an_array) ≡ refuses 21 o
       unfolding wanted_here wanted_by
       no_array n =
           asked o _ u ks e kz v
-          ∙ value_form doc names (λ f. ask (wanted_by doc o f anArray) ≡ refuses 21 o) u o ks e kz v
+          ∙ value_form doc names (λ f. ask (wanted_by doc o f an_array) ≡ refuses 21 o) u o ks e kz v
           (λ _. refl) (λ b _. refl) (λ s m _. (λ b. refl, λ g w. refl, λ f w. refl)) (λ t x _. refl) (λ ts x q. absurd (n ts q)) (λ ms x _. refl)
 
-      pub no_object : NoObject u → ask (wanted_here doc o anObject) ≡ refuses 21 o
+      pub no_object : NoObject u → ask (wanted_here doc o an_object) ≡ refuses 21 o
       unfolding wanted_here wanted_by
       no_object n =
           asked o _ u ks e kz v
-          ∙ value_form doc names (λ f. ask (wanted_by doc o f anObject) ≡ refuses 21 o) u o ks e kz v
+          ∙ value_form doc names (λ f. ask (wanted_by doc o f an_object) ≡ refuses 21 o) u o ks e kz v
           (λ _. refl) (λ b _. refl) (λ s m _. (λ b. refl, λ g w. refl, λ f w. refl)) (λ t x _. refl) (λ ts x _. refl) (λ ms x q. absurd (n ms q))
 
     -- ---- its string

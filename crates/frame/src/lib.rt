@@ -1,4 +1,6 @@
 // One line of the bench: what its characters stand for, which format, the verdict, and the text of the answer.
+#![tactic(auto)]
+
 mod hex;
 mod texts;
 

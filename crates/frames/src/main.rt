@@ -1,4 +1,6 @@
 // The bench: reads frames from standard input, one a line in hexadecimal, and writes the answer of each and the total.
+#![tactic(auto)]
+
 mod lines;
 mod output;
 

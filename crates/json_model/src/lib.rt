@@ -1,4 +1,6 @@
 // The types that both readers answer with, and the limits of both formats. What they mean stands in specs/.
+#![tactic(auto)]
+
 pub mod limits;
 
 // A refusal: the place where a rule failed, and the number of that rule.

@@ -2,6 +2,8 @@
 // full key table. Each line has a case and the answer; the file stdout beside src/ has the answers that the page asks
 // for. The longest documents do not fit on a program's stack: tests/c/specimens.c and the Rust package's tests run
 // them.
+#![tactic(auto)]
+
 mod binary;
 mod documents;
 mod fractured;

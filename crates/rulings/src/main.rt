@@ -1,5 +1,7 @@
 // Runs the rows of the rulings, which are the lines of standard input: each row is written with the answer that the reader gives,
 // and the last line says how many rows there were and how many of the given answers agree.
+#![tactic(auto)]
+
 mod answers;
 mod binary;
 mod fractured;

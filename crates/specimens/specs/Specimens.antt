@@ -15,7 +15,7 @@ use Rattle.fractured_json_rules.specs.Meaning.{Keys}
 use Rattle.fractured_json_rules.specs.TreeOf as FracturedTree
 
 pub data Format : Type 0 where
-  binaryJson fracturedJson : Format
+  binary_json fractured_json : Format
 
 pub data Says : Type 0 where
   means : Tree → Says
@@ -32,8 +32,8 @@ of_fractured room doc (halt number place ks) = refused number place
 of_fractured room doc (done a ks) = means (FracturedTree.tree_of room doc no_names)
 
 abbrev pub says_of : Format → List ℕ → Says
-says_of binaryJson doc = of_binary doc (Binary.verdict doc (replicate (length doc) 0))
-says_of fracturedJson doc = of_fractured most_keys doc (Fractured.verdict most_keys doc no_names)
+says_of binary_json doc = of_binary doc (Binary.verdict doc (replicate (length doc) 0))
+says_of fractured_json doc = of_fractured most_keys doc (Fractured.verdict most_keys doc no_names)
 
 pub record Specimen : Type 0 where
   pub format : Format
@@ -41,10 +41,10 @@ pub record Specimen : Type 0 where
   pub says : Says
 
 abbrev pub binary : List ℕ → Says → Specimen
-binary d s = record { format = binaryJson; doc = d; says = s }
+binary d s = record { format = binary_json; doc = d; says = s }
 
 abbrev pub fractured : List ℕ → Says → Specimen
-fractured d s = record { format = fracturedJson; doc = d; says = s }
+fractured d s = record { format = fractured_json; doc = d; says = s }
 
 -- ---- the trees
 

@@ -1,4 +1,6 @@
 // How two texts stand to each other, and a hash of a text.
+#![tactic(auto)]
+
 pub mod hash;
 mod swap;
 

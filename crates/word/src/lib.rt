@@ -1,4 +1,6 @@
 // Integers out of bytes, lowest byte first, and the two fields of a word.
+#![tactic(auto)]
+
 ghost use Rattle.std.specs.Prelude.{◌≡◌, ◌+◌, ◌≤◌, ◌<◌, length};
 ghost use Rattle.json_model.specs.Bytes.{number, low_field, high_field};
 
