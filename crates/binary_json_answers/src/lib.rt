@@ -5,7 +5,7 @@ use binary_json_areas::offsets::{SlotOffset, TreeOffset};
 use json_model::Refusal;
 
 // A container's kind, with its size.
-#[derive(Drop)]
+#[derive(Clone, Copy)]
 pub enum Sized {
     Array(usize),
     Object(usize),
@@ -14,21 +14,21 @@ pub enum Sized {
 }
 
 // An element's Entry, or the container that an Entry names.
-#[derive(Drop)]
+#[derive(Clone, Copy)]
 pub enum TreeAt {
     At(TreeOffset),
     Refused(Refusal),
 }
 
 // A member's slot and Entry.
-#[derive(Drop)]
+#[derive(Clone, Copy)]
 pub enum MemberAt {
     At { slot: SlotOffset, entry: TreeOffset },
     Refused(Refusal),
 }
 
 // The type of an Entry.
-#[derive(Drop)]
+#[derive(Clone, Copy)]
 pub enum Typed {
     False,
     True,
@@ -40,21 +40,21 @@ pub enum Typed {
 }
 
 // A text, as a part of the document.
-#[derive(Drop)]
+#[derive(Clone, Copy)]
 pub enum Span {
     At { place: usize, len: usize },
     Refused(Refusal),
 }
 
 // A number's 64 bits.
-#[derive(Drop)]
+#[derive(Clone, Copy)]
 pub enum Bits {
     Of(u64),
     Refused(Refusal),
 }
 
 // The Entry of the member with a key, as the plain scan gives it.
-#[derive(Drop)]
+#[derive(Clone, Copy)]
 pub enum Scanned {
     Entry(TreeOffset),
     Absent,
@@ -62,7 +62,7 @@ pub enum Scanned {
 }
 
 // The Entry of the member with a key, as the quick lookup gives it, with the comparisons of both halvings.
-#[derive(Drop)]
+#[derive(Clone, Copy)]
 pub enum Looked {
     Entry {
         at: TreeOffset,

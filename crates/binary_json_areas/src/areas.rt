@@ -24,7 +24,7 @@ pub fn fields_at(doc: &[u8], at: usize) -> Fields
 }
 
 // Where the string index starts, or why the document is refused.
-#[derive(Drop)]
+#[derive(Clone, Copy)]
 pub enum Index {
     At(usize),
     Refused(Refusal),
@@ -79,7 +79,7 @@ fn read_index(doc: &[u8]) -> Index
 }
 
 // Where the string index starts and how many strings it has, or why the document is refused.
-#[derive(Drop)]
+#[derive(Clone, Copy)]
 pub enum Header {
     At { index: usize, count: usize },
     Refused(Refusal),
@@ -106,14 +106,14 @@ pub fn read_header(doc: &[u8]) -> Header
 }
 
 // Where something ends, or why it is refused.
-#[derive(Drop)]
+#[derive(Clone, Copy)]
 pub enum Walk {
     End(usize),
     Refused(Refusal),
 }
 
 // The areas of a document: where the string index starts, how many strings it has, and where the numbers start.
-#[derive(Drop)]
+#[derive(Clone, Copy)]
 pub struct Areas {
     pub index: usize,
     pub count: usize,

@@ -8,7 +8,7 @@ use crate::areas::{Areas, Header};
 use json_model::Refusal;
 
 // The areas of the document, or why the question is refused.
-#[derive(Drop)]
+#[derive(Clone, Copy)]
 pub enum Asking {
     Of(Areas),
     Refused(Refusal),
@@ -78,7 +78,7 @@ pub fn tree_word(doc: &[u8], a: Areas, at: usize) -> bool
 }
 
 // The two fields of a word of the tree, the lower one first, or why the question is refused.
-#[derive(Drop)]
+#[derive(Clone, Copy)]
 pub enum WordHere {
     Of(usize, usize),
     Refused(Refusal),

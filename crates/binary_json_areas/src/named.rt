@@ -29,7 +29,7 @@ pub fn slot_named(doc: &[u8], a: Areas, slot: SlotOffset) -> bool
 }
 
 // A finite number with its bits; one that is not finite; or no number of the area.
-#[derive(Drop)]
+#[derive(Clone, Copy)]
 pub enum Numbered {
     Finite(u64),
     NotFinite,
@@ -62,7 +62,7 @@ pub fn number_named(doc: &[u8], a: Areas, number: NumberOffset) -> Numbered
 }
 
 // Where a text stands and how long it is, or a slot that is not good to read.
-#[derive(Drop)]
+#[derive(Clone, Copy)]
 pub enum Texted {
     At { place: usize, len: usize },
     Bad,

@@ -116,7 +116,7 @@ pub fn element(doc: &[u8], cursor: TreeOffset, i: usize) -> TreeAt
 }
 
 // An object's size, or why it is refused.
-#[derive(Drop)]
+#[derive(Clone, Copy)]
 pub enum Object {
     Of(usize),
     Refused(Refusal),

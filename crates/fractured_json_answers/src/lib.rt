@@ -4,14 +4,14 @@
 use json_model::Refusal;
 
 // Where something stands.
-#[derive(Drop)]
+#[derive(Clone, Copy)]
 pub enum Place {
     At(usize),
     Refused(Refusal),
 }
 
 // What a value is, with the length of a string or container.
-#[derive(Drop)]
+#[derive(Clone, Copy)]
 pub enum Kind {
     Null,
     False,
@@ -24,28 +24,28 @@ pub enum Kind {
 }
 
 // A number: its type byte and 64 bits, signed and tiny ints extended by sign, all others by zeros.
-#[derive(Drop)]
+#[derive(Clone, Copy)]
 pub enum Number {
     Is { type_byte: u8, bits: u64 },
     Refused(Refusal),
 }
 
 // A string: where its text stands and how long it is.
-#[derive(Drop)]
+#[derive(Clone, Copy)]
 pub enum Text {
     At { place: usize, len: usize },
     Refused(Refusal),
 }
 
 // A member: where its key byte and its value stand.
-#[derive(Drop)]
+#[derive(Clone, Copy)]
 pub enum Member {
     At { key: usize, value: usize },
     Refused(Refusal),
 }
 
 // The first member with a key: where its value stands, or absent.
-#[derive(Drop)]
+#[derive(Clone, Copy)]
 pub enum Found {
     At(usize),
     Absent,
@@ -54,7 +54,7 @@ pub enum Found {
 
 // A key: where its text stands in the document or in the key list, how long it is, and where the key ends, which is where its value
 // starts.
-#[derive(Drop)]
+#[derive(Clone, Copy)]
 pub enum Key {
     Document {
         place: usize,

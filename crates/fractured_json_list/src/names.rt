@@ -30,7 +30,7 @@ pub fn count_of(list: &[u8]) -> usize
 }
 
 // A name, by start and length of its text.
-#[derive(Drop)]
+#[derive(Clone, Copy)]
 pub struct Name {
     pub start: usize,
     pub len: usize,

@@ -12,7 +12,7 @@ use fractured_json_values::texts::text_of;
 use json_model::{Refusal, Verdict};
 
 // How a name is passed: the place of the next length, or a refusal.
-#[derive(Drop)]
+#[derive(Clone, Copy)]
 pub enum Step {
     Past(usize),
     Refused(Refusal),

@@ -38,7 +38,7 @@ pub fn open_question(doc: &[u8], list: &[u8], at: usize) -> Verdict
 }
 
 // The type byte at the cursor, or that the document has ended there.
-#[derive(Drop)]
+#[derive(Clone, Copy)]
 pub enum Entered {
     Type(u8),
     Refused(Refusal),

@@ -26,7 +26,7 @@ const KEY_LENGTHS: [u8; 6] = [1, 1, 1, 84, 84, 84];
 
 // What the tables say of a type byte. Kind: 0 null, 1 false, 2 true, 3 signed int, 4 unsigned int, 5 tiny int, 6 binary32,
 // 7 binary64, 8 string, 9 object, 10 array, 11 reserved. `tiny` is the byte less the first byte of its range.
-#[derive(Drop)]
+#[derive(Clone, Copy)]
 pub struct Head {
     pub kind: u8,
     pub width: usize,
@@ -131,7 +131,7 @@ pub fn head_of(b: u8) -> Head
 
 // What the tables say of a key byte. Kind: 0 immediate, 1 back reference, 2 global index, 3 reserved. Where no v_uint16 is
 // spelled after the byte, `number` is the byte less the first byte of its range.
-#[derive(Drop)]
+#[derive(Clone, Copy)]
 pub struct KeyHead {
     pub kind: u8,
     pub spelled: u8,

@@ -10,7 +10,7 @@ use crate::types::{Head, NUMBER_WIDTHS, head_of};
 use json_model::Refusal;
 
 // A number, and where it ends.
-#[derive(Drop)]
+#[derive(Clone, Copy)]
 pub enum Numeral {
     Is { number: usize, past: usize },
     Refused(Refusal),
@@ -41,7 +41,7 @@ pub fn sized(doc: &[u8], at: usize, width: usize, tiny: usize) -> Numeral
 }
 
 // A value without contents, by its end; a container's contents, by their number and place; or a refusal.
-#[derive(Drop)]
+#[derive(Clone, Copy)]
 pub enum Open {
     Leaf(usize),
     Container { at: usize, n: usize, object: bool },

@@ -4,21 +4,21 @@
 pub mod limits;
 
 // A refusal: the place where a rule failed, and the number of that rule.
-#[derive(Drop)]
+#[derive(Clone, Copy)]
 pub struct Refusal {
     pub place: usize,
     pub number: u32,
 }
 
 // The verdict of a check.
-#[derive(Drop)]
+#[derive(Clone, Copy)]
 pub enum Verdict {
     Accepted,
     Refused(Refusal),
 }
 
 // How one text stands to another.
-#[derive(Drop)]
+#[derive(Clone, Copy)]
 pub enum Order {
     Below,
     Equal,

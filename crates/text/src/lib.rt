@@ -13,7 +13,7 @@ ghost use Rattle.text.specs.Comparing.{ComparesFrom, Passed};
 use json_model::Order;
 
 // The order of two texts, and in how many steps it was found.
-#[derive(Drop)]
+#[derive(Clone, Copy)]
 pub struct Comparison {
     pub order: Order,
     pub steps: usize,

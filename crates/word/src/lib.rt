@@ -100,7 +100,7 @@ pub fn word_at(s: &[u8], at: usize) -> u32
 }
 
 // A word's two fields, as numbers to count with.
-#[derive(Drop)]
+#[derive(Clone, Copy)]
 pub struct Fields {
     pub low: usize,
     pub high: usize,
