@@ -177,30 +177,30 @@ module _ (doc : List ℕ) (c i a s : ℕ) (r : BinaryAnswers) (fixed : BinaryFix
       of_array : (ts : Trees) → ContainerIs doc (arr ts) c → OfArray doc c i ts r
       unfolding sized_as
       of_array ts h = record {
-        kind_size = fixed.sized_is_lem ∙ Rules.kind_and_size_lem doc t m c l (arr ts) h;
+        kind_size = fixed.sized_is ∙ Rules.kind_and_size_lem doc t m c l (arr ts) h;
         element_i = λ v y. let (q, o, w) = Rules.element_of_array doc t m c l ts i v h y in (fixed.element_is ∙ q, o, w);
         past_end = λ b. fixed.element_is ∙ Rules.element_past_end doc t m c l ts i h b;
-        no_member = fixed.member_is_lem ∙ Rules.member_of_other doc t m c l (arr ts) i (array_no_object ts) h;
+        no_member = fixed.member_is ∙ Rules.member_of_other doc t m c l (arr ts) i (array_no_object ts) h;
       }
 
       of_object : (ms : Members) → ContainerIs doc (obj ms) c → OfObject doc c i s ms r
       unfolding sized_as
       of_object ms h = record {
-        kind_size = fixed.sized_is_lem ∙ Rules.kind_and_size_lem doc t m c l (obj ms) h;
+        kind_size = fixed.sized_is ∙ Rules.kind_and_size_lem doc t m c l (obj ms) h;
         member_i = λ k v y.
             let (q, same, o, w) = Rules.member_of_object doc t m c l ms i k v h y in
             let (p, f, g, inside) = Rules.key_span doc t m c l ms i k v h y in
-            (fixed.member_is_lem ∙ q, λ z. (p, fixed.slot_is ∙ rw z f, g), o, w);
-        past_end = λ b. fixed.member_is_lem ∙ Rules.member_past_end doc t m c l ms i h b;
+            (fixed.member_is ∙ q, λ z. (p, fixed.slot_is ∙ rw z f, g), o, w);
+        past_end = λ b. fixed.member_is ∙ Rules.member_past_end doc t m c l ms i h b;
         no_element = fixed.element_is ∙ Rules.element_of_object doc t m c l ms i h;
       }
 
       of_scalar : (u : Tree) → NoContainer u → ContainerIs doc u c → ask (kind_and_size doc c) ≡ answers (sized 2 1) → OfScalar doc c i u r
       of_scalar u n h k = record {
-        kind_size = fixed.sized_is_lem ∙ k;
+        kind_size = fixed.sized_is ∙ k;
         element_0 = λ z. let (q, o, w) = Rules.element_of_scalar doc t m c l u n h in ((rw z at fixed.element_is) ∙ q, o, w);
         past_end = λ b. fixed.element_is ∙ Rules.element_past_scalar doc t m c l u i n h b;
-        no_member = fixed.member_is_lem ∙ Rules.member_of_other doc t m c l u i (scalar_no_object u n) h;
+        no_member = fixed.member_is ∙ Rules.member_of_other doc t m c l u i (scalar_no_object u n) h;
       }
 
       of_container : (u : Tree) → ContainerIs doc u c → OfContainer doc c i s u r
@@ -219,8 +219,8 @@ module _ (doc : List ℕ) (c i a s : ℕ) (r : BinaryAnswers) (fixed : BinaryFix
       no_container = λ n. fixed.container_is ∙ Rules.container_of_scalar doc t m d l a o v n h;
       string_of = λ y e. let (p, q, w) = Rules.string_of_entry doc t m d l a o y (subst (λ (z : Tree). EntryIs doc z a) e h) in (p, fixed.string_is ∙ q, w);
       no_string = λ n. fixed.string_is ∙ (Rules.string_of_other doc t m d l a o v n h).0;
-      number_of = λ p n e. let (b, q, w) = Rules.number_of_entry doc t m d l a o p n (subst (λ (z : Tree). EntryIs doc z a) e h) in (b, fixed.number_is_lem ∙ q, w);
-      no_number = λ n. fixed.number_is_lem ∙ Rules.number_of_other doc t m d l a o v n h;
+      number_of = λ p n e. let (b, q, w) = Rules.number_of_entry doc t m d l a o p n (subst (λ (z : Tree). EntryIs doc z a) e h) in (b, fixed.number_is ∙ q, w);
+      no_number = λ n. fixed.number_is ∙ Rules.number_of_other doc t m d l a o v n h;
     }
 
 -- from the contracts of the calls, as the function that makes them has them
@@ -230,13 +230,13 @@ pub ask_kept : (doc : List ℕ) (c i a s : ℕ) {z : Sized} {e : TreeAt} {m : Me
     → AskBinary doc c i a s (record { sized = z; element = e; member = m; typed = y; container = o; string = t; number = b; slot = w })
 ask_kept doc c i a s {z} {e} {m} {y} {o} {t} {b} {w} h1 h2 h3 h4 h5 h6 h7 h8 =
     let fixed : BinaryFixed doc c i a s (record { sized = z; element = e; member = m; typed = y; container = o; string = t; number = b; slot = w }) = record {
-      sized_is_lem = h1;
+      sized_is = h1;
       element_is = h2;
-      member_is_lem = h3;
+      member_is = h3;
       type_is = h4;
       container_is = h5;
       string_is = h6;
-      number_is_lem = h7;
+      number_is = h7;
       slot_is = h8;
       string_inside = string_inside doc a t h6;
       slot_inside = slot_text_inside doc s w h8;

@@ -50,8 +50,8 @@ accepted_keys (halt n p ks) e = absurd (halt≢done (sym e))
 accepted_keys (done tt ks) e = (ks, refl)
 
 module _ (doc list lent after : List ℕ) (r : Checked) (contract : told_checked r after ≡ checked doc list lent) where
-  verdict_is_lem : told r.verdict ≡ verdict_of (verdict (room_of lent) doc list)
-  verdict_is_lem = ap (λ c. c.verdict) contract
+  verdict_is : told r.verdict ≡ verdict_of (verdict (room_of lent) doc list)
+  verdict_is = ap (λ c. c.verdict) contract
 
   count_is : r.count ≡ (checked doc list lent).count
   count_is = ap (λ c. c.count) contract
@@ -63,7 +63,7 @@ module _ (doc list lent after : List ℕ) (r : Checked) (contract : told_checked
   table_left =
       let k = Rules.table_kept doc list lent in
       record {
-        verdict_is_lem = verdict_is_lem;
+        verdict_is = verdict_is;
         count_is = count_is;
         as_long = ap length words_are ∙ k.as_long;
         each_pair = λ j h. ap (λ w. key_of w j) words_are ∙ k.each_pair j (rw count_is at h);
@@ -74,8 +74,8 @@ module _ (doc list lent after : List ℕ) (r : Checked) (contract : told_checked
   accepts : FracturedAccepts doc list lent r.verdict
   accepts = record {
     accepted = (
-      λ a. (Rules.accepted_exactly (room_of lent) doc list).0 (accepted_keys (verdict (room_of lent) doc list) (sym a ∙ verdict_is_lem)),
-      λ b. verdict_is_lem ∙ ap verdict_of ((Rules.accepted_exactly (room_of lent) doc list).1 b).1,
+      λ a. (Rules.accepted_exactly (room_of lent) doc list).0 (accepted_keys (verdict (room_of lent) doc list) (sym a ∙ verdict_is)),
+      λ b. verdict_is ∙ ap verdict_of ((Rules.accepted_exactly (room_of lent) doc list).1 b).1,
     );
     one_tree = λ t u m n. Rules.one_tree doc list t u m n;
     pairs_are = λ t m h. ap kept_of (Rules.accepted_keys (room_of lent) doc list t m h);
@@ -130,12 +130,12 @@ ask_kept doc list words count o i x k {a} {b} {c} {d} {e} {f} {g} {h} h1 h2 h3 h
   fixed = record {
     end_is = h1;
     kind_is = h2;
-    number_is_lem = h3;
+    number_is = h3;
     string_is = h4;
     element_is = h5;
-    member_is_lem = h6;
+    member_is = h6;
     first_is = h7;
-    key_is_lem = h8;
+    key_is = h8;
     string_inside = string_inside doc list o d h4;
     key_inside = key_inside doc list words count k h h8;
   };
@@ -158,10 +158,10 @@ module _ (doc list lent : List ℕ) (bytes : Bytes doc) (o i : ℕ) (x : List �
   of_value t u m roomy l s =
       let same : (v : Tree) → u ≡ v → StandsFor doc m.names m.keys o v = λ v e. subst (λ (z : Tree). StandsFor doc m.names m.keys o z) e s in
       record {
-        end_of_lem = fixed.end_is ∙ Rules.end_answer doc list t m lent roomy l u s;
-        kind_of_lem = fixed.kind_is ∙ Rules.kind_answer doc list t m l u s;
-        number_of = λ p n e. let (b, q, w) = Rules.number_answer doc list t m l bytes p n (same _ e) in (record { type = get_or doc o 0; bits = b }, fixed.number_is_lem ∙ q, refl, w);
-        no_number = λ n. fixed.number_is_lem ∙ Rules.number_wrong doc list t m l u s n;
+        the_end = fixed.end_is ∙ Rules.end_answer doc list t m lent roomy l u s;
+        the_kind = fixed.kind_is ∙ Rules.kind_answer doc list t m l u s;
+        number_of = λ p n e. let (b, q, w) = Rules.number_answer doc list t m l bytes p n (same _ e) in (record { type = get_or doc o 0; bits = b }, fixed.number_is ∙ q, refl, w);
+        no_number = λ n. fixed.number_is ∙ Rules.number_wrong doc list t m l u s n;
         string_of = λ y e.
             subst (λ (v : Tree). (z : StandsFor doc m.names m.keys o v)
             → (p : ℕ) × (told_text r.string ≡ answers (record { place = p; len = length y })) × (part doc p (length y) ≡ y) × (p + length y ≡ z.past))
@@ -185,7 +185,7 @@ module _ (doc list lent : List ℕ) (bytes : Bytes doc) (o i : ℕ) (x : List �
             record {
               len = (same _ e).value.0;
               is_object = (same _ e).value.1.form_is;
-              answered = fixed.member_is_lem ∙ a.answered;
+              answered = fixed.member_is ∙ a.answered;
               led_to = a.led_to;
               key = a.key;
               tree = a.tree;
@@ -193,17 +193,17 @@ module _ (doc list lent : List ℕ) (bytes : Bytes doc) (o i : ℕ) (x : List �
               is_member = a.is_member;
               key_read = λ z. (
                 a.key_read.read,
-                fixed.key_is_lem ∙ (ap (λ b. ask (key_at doc list (checked doc list lent).words (checked doc list lent).count b)) z ∙ a.key_read.answered),
+                fixed.key_is ∙ (ap (λ b. ask (key_at doc list (checked doc list lent).words (checked doc list lent).count b)) z ∙ a.key_read.answered),
                 a.key_read.text,
                 a.key_read.ends,
               );
             };
-        past_object = λ ms e h. fixed.member_is_lem ∙ Rules.member_past doc list t m lent roomy l ms i (same _ e) h;
-        first_member_lem = λ ms e.
+        past_object = λ ms e h. fixed.member_is ∙ Rules.member_past doc list t m lent roomy l ms i (same _ e) h;
+        the_first = λ ms e.
             let is = same _ e in
             subst (λ (q : Asked Found). FirstAnswer doc m.names m.keys o ms x q) (sym fixed.first_is)
             (first_is ms is.value.0 is.value.1.form_is _ (Rules.first_member_answer doc list t m lent roomy l ms x is));
-        no_object = λ n. (fixed.member_is_lem ∙ Rules.member_wrong doc list t m lent roomy l u i s n, fixed.first_is ∙ Rules.first_member_wrong doc list t m lent roomy l u x s n);
+        no_object = λ n. (fixed.member_is ∙ Rules.member_wrong doc list t m lent roomy l u i s n, fixed.first_is ∙ Rules.first_member_wrong doc list t m lent roomy l u x s n);
       }
     where
       first_is : (ms : Members) (len : Len) → form_of (get_or doc o 0) ≡ f_object len → (q : Asked Found)

@@ -66,13 +66,13 @@ use Rattle.claims.specs.declared.TextAnswers.{TextAnswers}
 -- at any slot cursor s; r is what they answered
 
 pub record BinaryFixed (doc : List ℕ) (c i a s : ℕ) (r : BinaryAnswers) : Type 0 where
-  pub sized_is_lem : told_sized r.sized ≡ ask (kind_and_size doc c)
+  pub sized_is : told_sized r.sized ≡ ask (kind_and_size doc c)
   pub element_is : told_tree r.element ≡ ask (element doc c i)
-  pub member_is_lem : told_member r.member ≡ ask (member_at doc c i)
+  pub member_is : told_member r.member ≡ ask (member_at doc c i)
   pub type_is : told_type r.typed ≡ ask (entry_type doc a)
   pub container_is : told_tree r.container ≡ ask (container_at doc a)
   pub string_is : told_span r.string ≡ ask (string_at doc a)
-  pub number_is_lem : told_bits r.number ≡ ask (number_at doc a)
+  pub number_is : told_bits r.number ≡ ask (number_at doc a)
   pub slot_is : told_span r.slot ≡ ask (slot_text doc s)
   -- a text that is answered lies inside the document
   pub string_inside : SpanInside doc r.string
@@ -116,12 +116,12 @@ KeyInside doc list (Key.Refused r) = Unit {0}
 pub record FracturedFixed (doc list words : List ℕ) (count o i : ℕ) (x : List ℕ) (k : ℕ) (r : FracturedAnswers) : Type 0 where
   pub end_is : told_place r.end ≡ ask (Fj.end_of doc list words count o)
   pub kind_is : told_kind r.kind ≡ ask (Fj.kind doc list o)
-  pub number_is_lem : told_number r.number ≡ ask (Fj.number_at doc list o)
+  pub number_is : told_number r.number ≡ ask (Fj.number_at doc list o)
   pub string_is : told_text r.string ≡ ask (Fj.string_at doc list o)
   pub element_is : told_place r.element ≡ ask (Fj.element_at doc list words count o i)
-  pub member_is_lem : fjToldMember r.member ≡ ask (Fj.member_at doc list words count o i)
+  pub member_is : fjToldMember r.member ≡ ask (Fj.member_at doc list words count o i)
   pub first_is : told_found r.first ≡ ask (Fj.first_member doc list words count o x)
-  pub key_is_lem : told_key r.key ≡ ask (Fj.key_at doc list words count k)
+  pub key_is : told_key r.key ≡ ask (Fj.key_at doc list words count k)
   -- a text that is answered lies inside the bytes that hold it
   pub string_inside : TextInside doc r.string
   pub key_inside : KeyInside doc list r.key
@@ -141,7 +141,7 @@ pub record BadList (n p : ℕ) (r : FracturedAnswers) : Type 0 where
 -- pair, all other words keep what they held, and the number of those pairs is given. A bad key list leaves the table as
 -- it was.
 pub record TableLeft (doc list lent after : List ℕ) (v : Verdict) (count : ℕ) : Type 0 where
-  pub verdict_is_lem : told v ≡ verdict_of (fjVerdict (room_of lent) doc list)
+  pub verdict_is : told v ≡ verdict_of (fjVerdict (room_of lent) doc list)
   pub count_is : count ≡ length (kept_of (fjVerdict (room_of lent) doc list))
   pub as_long : length after ≡ length lent
   pub each_pair : (j : ℕ) → j < count → key_of after j ≡ get_or (kept_of (fjVerdict (room_of lent) doc list)) j no_key
@@ -272,8 +272,8 @@ pub data FirstAnswer (doc : List ℕ) (names : Names) (ks : Keys) (o : ℕ) (ms 
 
 -- asked of the value at o, which stands for u and ends at `past`
 pub record OfValue (doc list : List ℕ) (names : Names) (ks : Keys) (o i : ℕ) (x : List ℕ) (k : ℕ) (u : Tree) (past : ℕ) (r : FracturedAnswers) : Type 0 where
-  pub end_of_lem : told_place r.end ≡ answers past
-  pub kind_of_lem : told_kind r.kind ≡ answers (kind_of u)
+  pub the_end : told_place r.end ≡ answers past
+  pub the_kind : told_kind r.kind ≡ answers (kind_of u)
   pub number_of : (m : Bool) (n : ℕ) → u ≡ num m n
       → (b : Fj.Bits) × (told_number r.number ≡ answers b) × (b.type ≡ get_or doc o 0) × (value_of b ≡ num m n)
   pub no_number : NoNumber u → told_number r.number ≡ refuses 21 o
@@ -286,7 +286,7 @@ pub record OfValue (doc list : List ℕ) (names : Names) (ks : Keys) (o i : ℕ)
   pub no_array : NoArray u → told_place r.element ≡ refuses 21 o
   pub member_i : (ms : Members) → u ≡ obj ms → i < sizem ms → MemberAnswer doc list names ks o i k ms (fjToldMember r.member) (told_key r.key)
   pub past_object : (ms : Members) → u ≡ obj ms → sizem ms ≤ i → fjToldMember r.member ≡ refuses 22 o
-  pub first_member_lem : (ms : Members) → u ≡ obj ms → FirstAnswer doc names ks o ms x (told_found r.first)
+  pub the_first : (ms : Members) → u ≡ obj ms → FirstAnswer doc names ks o ms x (told_found r.first)
   pub no_object : NoObject u → (fjToldMember r.member ≡ refuses 21 o) × (told_found r.first ≡ refuses 21 o)
 
 -- with the key table and the count that its own check left in the words lent
