@@ -3,7 +3,7 @@
 //
 // Each size is a function of its own, called after all other tests of `check_list`: the compiler takes such a call for rare and does
 // not inline it, so that a short list does not pay for the stack of a long one either.
-ghost use Rattle.std.specs.Prelude.{◌≡◌, [], ◌/◌, min, length};
+ghost use Rattle.std.specs.Prelude.{◌≡◌, ◌<◌, ◌^◌, [], ◌/◌, min, length};
 ghost use Rattle.json_model.specs.Reading.{ask, told};
 ghost use Rattle.fractured_json_rules.specs.KeyList.{names_from};
 ghost use Rattle.fractured_json_list.specs.Passing.{most_names, RoomFor};
@@ -49,8 +49,17 @@ pub(crate) fn pass_most(list: &[u8], n: usize) -> Verdict
     requires { RoomFor list.now n most_names }
     ensures { told result ≡ ask (names_from list.now n 3 []) }
 {
-    let mut words = [0u32; 131070];
-    let mut links = [0u16; 131070];
+    pass_with::<131070>(list, n)
+}
+
+// Room of N words and N links. Apart from `pass_most`, since the prover does not write out so long a list of zeros as 131,070.
+fn pass_with<const N: usize>(list: &[u8], n: usize) -> Verdict
+    requires room { RoomFor list.now n (N / 2) }
+    requires small { N < 2 ^ 32 }
+    ensures { told result ≡ ask (names_from list.now n 3 []) }
+{
+    let mut words = [0u32; N];
+    let mut links = [0u16; N];
     pass_names(list, n, &mut words, &mut links)
 }
 

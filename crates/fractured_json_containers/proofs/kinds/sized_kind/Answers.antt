@@ -1,0 +1,11 @@
+use Rattle.std.proofs.Common.{rules}
+use Rattle.fractured_json_scalars.proofs.kinds.sized_kind.Goals as goal
+
+pub returns-then-kind-eq8 : goal.returns-then-kind-eq8
+returns-then-kind-eq8 c = search rules
+
+pub returns-then-kind-eq9 : goal.returns-then-kind-eq9
+returns-then-kind-eq9 c = search rules
+
+pub returns : goal.returns
+returns c = search rules

@@ -1,0 +1,11 @@
+use Rattle.std.proofs.Common.{rules}
+use Rattle.fractured_json_scalars.proofs.questions.string_here.Goals as goal
+
+pub returns-then-doc-past : goal.returns-then-doc-past
+returns-then-doc-past c = search rules
+
+pub returns-in-Refused : goal.returns-in-Refused
+returns-in-Refused c = search rules
+
+pub returns-else-doc-past : goal.returns-else-doc-past
+returns-else-doc-past c = search rules
