@@ -311,6 +311,7 @@ pub questions_say :
     × (ask (element (hex 16 0x81010000210000000000000000000000) 4 0) ≡ refuses 21 4)
     × (ask (element (hex 16 0x81010000630C00000000000000000000) 4 0) ≡ refuses 21 4)
     × (ask (element (hex 16 0x81010000400000000000000000000000) 4 9) ≡ refuses 20 4)
+    × (ask (element (hex 16 0x81010000400000000000000000000000) 4 2) ≡ refuses 20 4)
     × (ask (element (hex 12 0x010100002200000000000000) 4 0) ≡ refuses 20 4)
     × (ask (element (hex 12 0x010100000000000000000000) 4 0) ≡ refuses 22 4)
     × (ask (element (hex 20 0x0102000042000000000000000100000000000000) 4 1) ≡ answers 12)
@@ -383,7 +384,7 @@ pub questions_say :
     × (lookup_of (ask (quick_lookup (hex 12 0x010100000000000000000000) 4 (97 ∷ []))) ≡ lookup (refuses 21 4) 0 0)
     × (ask (plain_scan (hex 12 0x010100000000000000000000) 4 (97 ∷ [])) ≡ refuses 21 4)
 unfolding need ◌>>=◌ follow choose number finite by_numbers compare_texts index count slot text content numbers header slot_named number_named opening tree_word body body_words kind_here kind_and_size element_here element object_here member_here member_at slot_read text_named slot_text type_here entry_type container_here container_at string_here string_at number_here number_at turn halve_if halve_from halve after_keys after_strings quick_here quick_lookup lookup_of scan_from scan_here plain_scan
-questions_say = (refl, refl, refl, refl, refl, refl, refl, refl, refl, refl, refl, refl, refl, refl, refl, refl, refl, refl, refl, refl, refl, refl, refl, refl, refl, refl, refl, refl, refl, refl, refl, refl, refl, refl, refl, refl, refl, refl, refl, refl, refl, refl, refl, refl, refl, refl, refl, refl, refl, refl, refl, refl, refl, refl, refl, refl, refl, refl, refl, refl, refl, refl, refl, refl, refl, refl, refl, refl, refl, refl, refl, refl, refl, refl, refl, refl, refl, refl, refl, refl, refl, refl, refl, refl, refl, refl, refl, refl, refl, refl, refl)
+questions_say = (refl, refl, refl, refl, refl, refl, refl, refl, refl, refl, refl, refl, refl, refl, refl, refl, refl, refl, refl, refl, refl, refl, refl, refl, refl, refl, refl, refl, refl, refl, refl, refl, refl, refl, refl, refl, refl, refl, refl, refl, refl, refl, refl, refl, refl, refl, refl, refl, refl, refl, refl, refl, refl, refl, refl, refl, refl, refl, refl, refl, refl, refl, refl, refl, refl, refl, refl, refl, refl, refl, refl, refl, refl, refl, refl, refl, refl, refl, refl, refl, refl, refl, refl, refl, refl, refl, refl, refl, refl, refl, refl, refl)
 
 -- ---- the two halvings in a document whose slots can all be read, and how many binary digits a number has
 

@@ -8,7 +8,7 @@ use native.Mathlib.Omega.{arith}
 use lib.Dec.{eqb_refl, leb→le, lt→ltb, ltb→lt}
 use lib.ListN.{length, get_or}
 use Rattle.json_model.specs.Bytes.{Bytes, number, part}
-use Rattle.json_model.specs.Limits.{deepest, most_keys}
+use Rattle.json_model.specs.Limits.{longest, deepest, most_keys}
 use Rattle.json_model.specs.Reading.{Outcome, halt, done, Reading, Asked, ask, answers, refuses, ◌>>◌, kept_of}
 use Rattle.json_model.specs.Tree.{Tree, num, str, arr, obj, Trees, Members, size, sizem, depth, ElementIs, MemberIs, Lacks, NoNumber, NoString, NoArray, NoObject, Subtree}
 use Rattle.json_model.proofs.Reading.{halt≢done, done_answer, past, step, passed, then, stops, pass, fail, need_yes}
@@ -23,6 +23,7 @@ use Rattle.fractured_json_rules.specs.Leads.{element_place, key_place, Leads, el
 use Rattle.fractured_json_rules.specs.Questions.{opening, the_list, KeyRead, lent, text_key, back_key, name_key, read_key, pass_key, end_of, kind, number_at, string_at, string_here, string_bytes, element_from, element_at, element_here, MemberAt}
 use Rattle.fractured_json_rules.specs.Questions.{member_from, member_at, member_here, Found, value_at, absent, first_member, first_here, key_at, key_bytes}
 use Rattle.fractured_json_rules.specs.Answers.{kind_of, value_of}
+use Rattle.fractured_json_rules.proofs.Examples as Rows
 use Rattle.fractured_json_theorems.proofs.KeyList.{list_step, list_is, name_is}
 use Rattle.fractured_json_theorems.proofs.Sound.{sound}
 use Rattle.fractured_json_theorems.proofs.Complete.{key_passes}
@@ -35,6 +36,10 @@ use Rattle.fractured_json_theorems.proofs.Readers.{header_is, byte_step, text_st
 use Rattle.fractured_json_theorems.proofs.Walk.{walks}
 use Rattle.fractured_json_theorems.proofs.Answers.{Holds, KeyAnswer, reads_key, walks_value, walks_to_element, walks_to_member, Lookup, hit, miss, finds}
 use Rattle.fractured_json_theorems.proofs.Questions.{opening_is, kind_is, number_is_lem, string_is, no_number, no_string, no_array, no_object, array_length, object_length}
+
+-- a longer document than the longest is refused at its length, with every key list
+pub too_long : (room : ℕ) (doc list : List ℕ) (names : Names) → Lists list names → longest < length doc → verdict room doc list ≡ halt 32 (length doc) []
+too_long room doc list names l h = Rows.too_long room doc list (list_is list names [] l) h
 
 -- ---- Demand 2: a document is accepted exactly if it keeps the format's rules, with room for its keys in the table lent.
 

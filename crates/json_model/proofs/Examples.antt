@@ -141,9 +141,9 @@ signed_are = (refl, refl)
 -- the same numbers in other spellings
 pub numbers_are :
     (float_tree binary64 0x3FF0000000000000 ≡ whole_tree 1) × (float_tree binary32 0xC0000000 ≡ signed_tree 8 254) × (signed_tree 16 0x7FFF ≡ whole_tree 32_767)
-    × (float_tree binary32 1 ≡ float_tree binary64 0x36A0000000000000)
+    × (float_tree binary32 1 ≡ float_tree binary64 0x36A0000000000000) × (float_tree binary64 0x8000000000000000 ≡ num true 0) × (whole_tree 0 ≡ num false 0)
 unfolding float_tree magnitude whole_tree signed_tree choose
-numbers_are = (refl, refl, refl, refl)
+numbers_are = (refl, refl, refl, refl, refl, refl)
 
 -- the sign is the highest bit, also of what stands for no number
 pub signs_are :
@@ -322,6 +322,19 @@ fields_are = (
   (λ h. let e = h.0 in omega arith),
   (λ h. let k = h.1 in let e : ◌≡◌ {A = ℕ} 0x61 0x62 = cc in omega arith),
   (λ h. let m = h.2 in let e : ◌≡◌ {A = ℕ} 36 40 = cc in omega arith),
+  (λ h. h),
+)
+
+-- value 1 and member 1 by their numbers; member 1's key does not stand at 20, and there is no value 2 and no member 2
+pub in_it :
+    NodeIs nodes 1 (dict 16 fields) × FieldIs fields 1 24 (hex 1 0x62) (dict 40 last) × Within node (dict 40 last)
+    × (NodeIs nodes 2 (dict 16 fields) → ⊥) × (FieldIs fields 1 20 (hex 1 0x62) (dict 40 last) → ⊥) × (FieldIs fields 2 24 (hex 1 0x62) (dict 40 last) → ⊥)
+in_it = (
+  refl,
+  (refl, refl, refl),
+  value 16 fields 1 24 (hex 1 0x62) (element 4 nodes 1 itself refl) (refl, refl, refl),
+  (λ h. h),
+  (λ h. let e = h.0 in omega arith),
   (λ h. h),
 )
 
