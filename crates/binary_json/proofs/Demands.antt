@@ -283,7 +283,7 @@ module _ (doc : List ℕ) (t : Tree) (m : Means doc t) (c : ℕ) (l : Leads doc 
 
   pub element_of_array : (ts : Trees) (i : ℕ) (v : Tree) (r : TreeAt) → ContainerIs doc (arr ts) c → ElementIs ts i v → told_tree r ≡ ask (element doc c i)
       → (r ≡ TreeAt.At (tree_offset (c + 4 + 4 * i))) × EntryIs doc v (c + 4 + 4 * i)
-  element_of_array ts i v r h x e = let (q, s) = Rules.element_of_array doc t m c l ts i v h x in (sym (tree_is_lem r) ∙ ap tree_is (e ∙ q), s)
+  element_of_array ts i v r h x e = let (q, p, s) = Rules.element_of_array doc t m c l ts i v h x in (sym (tree_is_lem r) ∙ ap tree_is (e ∙ q), s)
 
   pub element_past_end : (ts : Trees) (i : ℕ) (r : TreeAt) → ContainerIs doc (arr ts) c → size ts ≤ i → told_tree r ≡ ask (element doc c i) → r ≡ TreeAt.Refused (refusal 22 c)
   element_past_end ts i r h b e = sym (tree_is_lem r) ∙ ap tree_is (e ∙ Rules.element_past_end doc t m c l ts i h b)
@@ -292,7 +292,7 @@ module _ (doc : List ℕ) (t : Tree) (m : Means doc t) (c : ℕ) (l : Leads doc 
   element_of_object ms i r h e = sym (tree_is_lem r) ∙ ap tree_is (e ∙ Rules.element_of_object doc t m c l ms i h)
 
   pub element_of_scalar : (u : Tree) (r : TreeAt) → NoContainer u → ContainerIs doc u c → told_tree r ≡ ask (element doc c 0) → (r ≡ TreeAt.At (tree_offset (c + 4))) × EntryIs doc u (c + 4)
-  element_of_scalar u r n h e = let (q, s) = Rules.element_of_scalar doc t m c l u n h in (sym (tree_is_lem r) ∙ ap tree_is (e ∙ q), s)
+  element_of_scalar u r n h e = let (q, p, s) = Rules.element_of_scalar doc t m c l u n h in (sym (tree_is_lem r) ∙ ap tree_is (e ∙ q), s)
 
   pub element_past_scalar : (u : Tree) (i : ℕ) (r : TreeAt) → NoContainer u → ContainerIs doc u c → 1 ≤ i → told_tree r ≡ ask (element doc c i) → r ≡ TreeAt.Refused (refusal 22 c)
   element_past_scalar u i r n h b e = sym (tree_is_lem r) ∙ ap tree_is (e ∙ Rules.element_past_scalar doc t m c l u i n h b)
@@ -300,7 +300,7 @@ module _ (doc : List ℕ) (t : Tree) (m : Means doc t) (c : ℕ) (l : Leads doc 
   pub member_of_object : (ms : Members) (j : ℕ) (x : List ℕ) (v : Tree) (r : MemberAt) (bytes : List ℕ) → ContainerIs doc (obj ms) c → MemberIs ms j x v
       → told_member r ≡ ask (member_at doc c j) → bytes ≡ slot_bytes doc (word doc (key_entry_of c j))
       → (r ≡ MemberAt.At (slot_offset (word doc (key_entry_of c j))) (tree_offset (entry_of c (sizem ms) j))) × (bytes ≡ x) × EntryIs doc v (entry_of c (sizem ms) j)
-  member_of_object ms j x v r bytes h y e w = let (q, k, s) = Rules.member_of_object doc t m c l ms j x v h y in (sym (member_is_lem r) ∙ ap member_is (e ∙ q), w ∙ k, s)
+  member_of_object ms j x v r bytes h y e w = let (q, k, p, s) = Rules.member_of_object doc t m c l ms j x v h y in (sym (member_is_lem r) ∙ ap member_is (e ∙ q), w ∙ k, s)
 
   pub member_past_end : (ms : Members) (j : ℕ) (r : MemberAt) → ContainerIs doc (obj ms) c → sizem ms ≤ j → told_member r ≡ ask (member_at doc c j) → r ≡ MemberAt.Refused (refusal 22 c)
   member_past_end ms j r h b e = sym (member_is_lem r) ∙ ap member_is (e ∙ Rules.member_past_end doc t m c l ms j h b)

@@ -9,7 +9,7 @@ use lib.Dec.{ltb, leb, ltb→lt}
 use lib.ListN.{length, get_or, drop, length-append}
 use Rattle.json_model.specs.Bytes.{part}
 use Rattle.json_model.specs.Limits.{most_keys, deepest}
-use Rattle.json_model.specs.Reading.{Outcome, halt, done, Reading, ask, answer, keep, follow, ◌>>=◌, need}
+use Rattle.json_model.specs.Reading.{Outcome, halt, done, Reading, ask, answer, refuse, keep, follow, ◌>>=◌, need}
 use Rattle.json_model.proofs.Alike.{sim_then, sim_carry, sim_test}
 use Rattle.json_model.proofs.Alike as Sides
 use Rattle.fractured_json_rules.specs.ByteTables.{KeyNumber, KeyForm, immediate, back_reference, global_index, k_reserved, key_form_of}
@@ -209,7 +209,7 @@ module _ (words doc : List ℕ) (names : ℕ) where
   unfolding value
   sim_value zero o ks t r =
       alike_by (value_opened doc o _ _ ks) (value_opened doc o _ _ t)
-      (sim_then Tied Tied Tied Tied _ _ _ _ (sim_opened o) (sim_on _ _ _ _ (λ n ks t r. (refl, refl, r)) (λ n ks t r. (refl, refl, r))) ks t r)
+      (sim_then Tied Tied Tied Tied _ _ _ _ (sim_opened o) (sim_on (λ n. refuse 41 o) (λ n. refuse 41 o) (λ n. refuse 41 o) (λ n. refuse 41 o) (λ n ks t r. (refl, refl, r)) (λ n ks t r. (refl, refl, r))) ks t r)
   sim_value (suc l) o ks t r =
       alike_by (value_opened doc o _ _ ks) (value_opened doc o _ _ t)
       (sim_then Tied Tied Tied Tied _ _ _ _ (sim_opened o) (sim_on _ _ _ _ (λ n. sim_turns _ _ (sim_value l) n.is n.past) (λ n. sim_turns _ _ (sim_member _ _ (sim_value l)) n.is n.past)) ks t r)
