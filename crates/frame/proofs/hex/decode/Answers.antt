@@ -1,4 +1,3 @@
-use borrow.Author.Rules.{rules}
 use Rattle.frame.proofs.Hexadecimal.{decode_laws}
 use mathlib.Core.Path.{◌≡◌}
 use Prim.Native.Nat.{◌*◌, ◌/◌, ◌-◌, ◌≤◌}
@@ -17,4 +16,4 @@ pub returns-then-line-eq0-clause-decoded : goal.returns-then-line-eq0-clause-dec
 returns-then-line-eq0-clause-decoded c = search decode_laws
 
 pub returns-clause-decoded : goal.returns-clause-decoded
-returns-clause-decoded c = (search decode_laws, search rules)
+returns-clause-decoded c = search decode_laws
