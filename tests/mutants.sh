@@ -1,6 +1,6 @@
 #!/usr/bin/env bash
-# Wrong versions of both verdicts, by machine: each number, each place and each order of two lines changed, and a computed
-# row must refuse each. Some five minutes on four processors of what `tests/mutate CRATE` does whole for a crate.
+# Wrong versions of both verdicts, by machine: each number, each place and each order of two lines changed, and a
+# computed row must refuse each. Some five minutes on four processors of what `tests/mutate CRATE` does for a crate.
 set -euo pipefail
 cd "$(dirname "$0")/.."
 work=$(mktemp -d)
