@@ -7,7 +7,8 @@
    A good document has at most 16,777,216 bytes, and its containers nest at most 64 levels deep.
 
    A pointer must be good for the length that follows it and not be null, even where that length is 0. What is lent to be
-   written must not overlap anything else that is lent. Link with libexports.a, which `rt staticlib exports` makes. */
+   written must not overlap anything else that is lent. Link with libexports.a, which `rt lib`
+   in crates/exports makes in its out/. */
 #ifndef CZUBROTEK_H
 #define CZUBROTEK_H
 

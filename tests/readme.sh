@@ -1,6 +1,6 @@
 #!/usr/bin/env bash
-# Runs the README as it is written: the bench on its lines, and the C and the Rust lines of its tour. What each writes must be what
-# the README says.
+# Runs the README as it is written: the bench on its lines, and the C and the Rust lines of its tour. What each writes must
+# be what the README says.
 set -euo pipefail
 cd "$(dirname "$0")/.."
 work=$(mktemp -d)
@@ -31,8 +31,9 @@ same 'the bench' 'Two commands' 3
     block Tour 1
     echo '}'
 } >"$work/tour.c"
-[ -f target/staticlib/libexports.a ] || rt staticlib exports >&2
-gcc -std=c11 -Wall -Wextra -Werror -Iinclude -o "$work/tour" "$work/tour.c" target/staticlib/libexports.a
+archive=crates/exports/out/libexports.a
+[ -f $archive ] || (cd crates/exports && rt lib) >&2
+gcc -std=c11 -Wall -Wextra -Werror -Iinclude -o "$work/tour" "$work/tour.c" $archive
 "$work/tour" >"$work/out"
 same 'the tour in C' Tour 2
 

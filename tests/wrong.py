@@ -1,28 +1,33 @@
 #!/usr/bin/env python3
-"""wrong.py [ROOT]: says of each wrong program whether the prover refused it for a fact.
+"""wrong.py SAID [ROOT]: says of each wrong program whether the prover refused it for a fact.
 
-Reads the must-fail edits under ROOT/crates and the logs that `rt must-fail` or `rt ci` left of them. A proof can also fail because it
-no longer fits what was edited, and that shows nothing: an error under src/ or specs/, an error at an invariant or a measure (`Inv-..`,
-`μ-..`) or where the needs are put together (`..-spec`), a name that is not there, a form that does not parse, a wrong number of
-arguments.
+SAID is a file with what `rt ci` or `rt must-fail` printed of the must-fail edits under ROOT/crates: a line for each,
+with the first error of the prover. Where that line does not decide, `rt check` says all, in copies of the crates with
+the edit made, over the work that earlier checks on this machine kept. A proof can also fail because it no longer fits
+what was edited, and that shows nothing: an error under src/ or specs/, an error at an invariant or a measure
+(proofs/F/Invariants.antt), a name that is not there, a form that does not parse, a wrong number of arguments.
 
-An edit of src/ holds one wrong program or more, in different functions, each named by a line `wrong: NAME in FUNCTION` above its
-replacements: of each of these functions a fact must fail, in its proof file or, where it has none, in the proof that the prover makes,
-and its proof file must fit.
-An edit of specs/ is one wrong definition, named by its file: a computed row must fail (an item of proofs/Examples.antt or
-proofs/ByteTables.antt whose proof is `refl`, or `refl` for each of its parts) or, where the edit has a line `theorem: NAME`, that item.
+An edit of src/ holds one wrong program or more, in different functions, each named by a line `wrong: NAME in
+FUNCTION` above its replacements: of each of these functions a fact must fail, in its proof files or, where it has
+none, at a goal that the tactics alone do not prove, and its proof files must fit. An edit of specs/ is one wrong
+definition, named by its file: a computed row must fail (an item of proofs/Examples.antt or proofs/ByteTables.antt
+whose proof is `refl`, or `refl` for each of its parts) or, where the edit has a line `theorem: NAME`, that item.
 
-Exit status: 0 every wrong program is refused for a fact; 1 some are not; 2 an edit is malformed or has no log.
+Exit status: 0 every wrong program is refused for a fact; 1 some are not; 2 an edit is malformed, or SAID has no line
+of it.
 """
-import pathlib, re, sys
+import concurrent.futures, os, pathlib, queue, re, shutil, subprocess, sys, tempfile
 
-root = pathlib.Path(sys.argv[1] if len(sys.argv) > 1 else pathlib.Path(__file__).resolve().parent.parent)
 ROWS = ("proofs/Examples.antt", "proofs/ByteTables.antt")
+# an error of a log, or the one of an edit's line: the file below the crate, the item, the message
+ERROR = re.compile(r"(?:^|: )(?:\./)?((?:src|specs|proofs)/\S+?):\d+:\d+: error(?:\[[^\]]*\])?: "
+                   r"(?:`([^`]+)`: )?(.*)$", re.M)
 # what follows from an error that stands elsewhere
-FOLLOWS = re.compile(r"was not admitted|cannot be unfolded because")
-# the proof does not fit what was edited
-MISFIT = re.compile(r"is not in scope|that can be named from here|has no `|`[^`]*` is not a (?:field|constructor)|parse error|unexpected|"
-                    r"too (?:many|few) arguments|takes (?:no|\d+) arguments?|not a function|unknown ")
+FOLLOWS = re.compile(r"which was (?:rejected|not admitted)|was not admitted|cannot be unfolded because")
+# the proof does not fit what was edited; what stands in backquotes is left out
+MISFIT = re.compile(r"is not in scope|that can be named from here|has no (?:`|field)|`` is not a (?:field|constructor)|"
+                    r"is no name|parse error|unexpected|too (?:many|few) arguments|takes (?:no|\d+) arguments?|"
+                    r"not a function|unknown |operand is missing|expected the end|cannot continue")
 
 
 def stop(why):
@@ -31,54 +36,61 @@ def stop(why):
 
 
 def read_edit(file):
-    """The folder that an edit changes (src or specs), its wrong programs as (name, function), and the theorem it names."""
-    folders, programs, theorem, pending = set(), [], None, False
+    """The folder that an edit changes (src or specs), its wrong programs as (name, function), the theorem it names, and
+    what it replaces as (file, old, new)."""
+    folders, programs, theorem, pending, path, old, pairs = set(), [], None, False, None, None, []
     for number, line in enumerate(file.read_text(encoding="utf-8").split("\n"), 1):
         wrong = re.fullmatch(r"wrong: (\S+) in (\S+)", line)
         named = re.fullmatch(r"theorem: (\S+)", line)
-        place = re.fullmatch(r"file: (src|specs)/\S+", line)
+        place = re.fullmatch(r"file: ((src|specs)/\S+)", line)
         if wrong:
             programs.append(wrong.groups())
             pending = True
         elif named and theorem is None:
             theorem = named[1]
         elif place:
-            folders.add(place[1])
-            pending = False
-        elif line and not re.match(r"old: |new:( |$)", line):
+            folders.add(place[2])
+            path, pending = place[1], False
+        elif line.startswith("old: "):
+            old = line[5:]
+        elif re.match(r"new:( |$)", line):
+            pairs.append((path, old, line[5:]))
+        elif line:
             stop(f"{file}:{number}: no line of an edit: {line}")
     if len(folders) != 1 or pending:
         stop(f"{file}: an edit changes src/ or specs/, and replaces something after each `wrong:` line")
     folder = folders.pop()
     if (folder == "src") != bool(programs) or programs and theorem:
         stop(f"{file}: an edit of src/ names its programs by `wrong:`; an edit of specs/ names at most a theorem")
-    return folder, programs, theorem
+    return folder, programs, theorem, pairs
 
 
-def errors_of(log, where):
-    """The errors of a log: file below the crate, the item, the message."""
-    found = re.findall(rf"^{re.escape(str(where))}/(\S+?):\d+:\d+: error(?:\[[^\]]*\])?: (?:`([^`]+)`: )?(.*)$", log, re.M)
-    return [(file, item, said) for file, item, said in found if not FOLLOWS.search(said)]
+def errors_of(log):
+    """The errors of what rt said, as ERROR has them."""
+    return [it for it in ERROR.findall(log) if not FOLLOWS.search(it[2])]
 
 
-def misfits(errors):
-    return [e for e in errors if e[1].startswith(("Inv-", "μ-")) or e[1].endswith("-spec") or MISFIT.search(e[2])]
+def fits(error):
+    """Whether an error is no misfit of a proof."""
+    file, _, said = error
+    return not file.endswith("/Invariants.antt") and not MISFIT.search(re.sub(r"`[^`]*`", "``", said))
 
 
-def is_row(where, file, item):
+def is_row(crate, file, item):
     """Whether an item is a computed row: its proof is `refl`, or `refl` for each of its parts."""
     if file not in ROWS:
         return False
-    proof = re.search(rf"^ *{re.escape(item)} =(.*?)(?:\n\n|\Z)", (where / file).read_text(encoding="utf-8"), re.M | re.S)
+    text = (crate / file).read_text(encoding="utf-8")
+    proof = re.search(rf"^ *{re.escape(item)} =(.*?)(?:\n\n|\Z)", text, re.M | re.S)
     return bool(proof) and not re.sub(r"\brefl\b|[\s(),]", "", proof[1])
 
 
-def definition(where, errors, theorem):
+def definition(crate, errors, theorem):
     """Why a wrong definition is not refused for a fact, or nothing."""
     if any(not file.startswith("proofs/") for file, _, _ in errors):
         return "the edited definition does not stand"
-    for file, item, said in errors:
-        if not MISFIT.search(said) and (item == theorem if theorem else is_row(where, file, item)):
+    for error in errors:
+        if fits(error) and (error[1] == theorem if theorem else is_row(crate, *error[:2])):
             return None
     return f"`{theorem}` does not fail" if theorem else "no computed row fails"
 
@@ -87,28 +99,81 @@ def program(log, errors, function):
     """Why a wrong program in a function is not refused for a fact, or nothing."""
     if any(not file.startswith("proofs/") for file, _, _ in errors):
         return "the edited code does not stand"
-    here = [e for e in errors if e[0] == f"proofs/{function.replace('::', '/')}/Proof.antt"]
-    if misfits(here):
-        return "the proof does not fit the edited code: " + "; ".join(f"`{item}`: {said[:80]}" for _, item, said in misfits(here)[:2])
-    made = re.search(rf"^fn \w+::{re.escape(function)}: no proof: .*`search` does not close", log, re.M)
-    return None if here or made else "no fact fails"
+    where = rf"proofs/(\+\w+/)?{re.escape(function.replace('::', '/'))}/\w+\.antt"
+    here = [e for e in errors if re.fullmatch(where, e[0])]
+    misfits = [f"{e[0].rpartition('/')[2]}: `{e[1]}`: {e[2][:80]}" for e in here if not fits(e)]
+    if misfits:
+        return "the proof does not fit the edited code: " + "; ".join(misfits[:2])
+    open_goal = re.search(rf"^fn \w+::{re.escape(function)}: no proof: .* did not prove `", log, re.M)
+    return None if here or open_goal else "no fact fails"
 
 
-shown = wrong = 0
-edits = sorted(root.glob("crates/*/must-fail/*.edit"))
-for edit in edits:
-    crate, label = edit.parent.parent.name, edit.stem
-    folder, programs, theorem = read_edit(edit)
-    where = root.resolve() / "target" / "must-fail" / crate / label
-    if not (where / ".log").exists():
-        stop(f"{edit}: no log; `rt ci` and `rt must-fail` write it")
-    log = (where / ".log").read_text(encoding="utf-8", errors="replace")
-    errors = errors_of(log, where)
-    for name, function in programs or [(label, None)]:
-        why = program(log, errors, function) if function else definition(where, errors, theorem)
-        wrong += 1
-        shown += why is None
-        if why:
-            print(f"{crate}/{label}: {name}{f' in {function}' if function else ''}: {why}", file=sys.stderr)
-print(f"wrong programs: {shown} of {wrong} refused for a fact")
-sys.exit(shown != wrong)
+def check(copy, crate, pairs):
+    """What `rt check` says in a copy of the repository whose crate has these replacements."""
+    where = copy / "crates" / crate
+    texts = {path: (where / path).read_text(encoding="utf-8") for path, _, _ in pairs}
+    edited = dict(texts)
+    for path, old, new in pairs:
+        edited[path] = edited[path].replace(old, new)
+    try:
+        for path, text in edited.items():
+            (where / path).write_text(text, encoding="utf-8")
+        how = {"stdin": subprocess.DEVNULL, "stdout": subprocess.PIPE, "stderr": subprocess.STDOUT}
+        return subprocess.run(["rt", "check", "--jobs", "1"], cwd=where, text=True, errors="replace", **how).stdout
+    finally:
+        for path, text in texts.items():
+            (where / path).write_text(text, encoding="utf-8")
+
+
+def judge(edit, line, free):
+    """Why each wrong program of an edit is not refused for a fact, or nothing, as (name, function, why)."""
+    crate, (folder, programs, theorem, pairs) = edit.parent.parent, read_edit(edit)
+    whole = [(edit.stem, None)] if folder == "specs" else programs
+    if "BAD EDIT" in line:
+        what = "definition" if folder == "specs" else "code"
+        return [(*it, f"the edited {what} does not stand: {line}") for it in whole]
+    if "refused, as it must be" not in line:
+        lacks = program("", [], "") if folder == "src" else definition(crate, [], theorem)
+        return [(*it, f"{lacks}: {line}") for it in whole]
+    if folder == "specs" and definition(crate, errors_of(line), theorem) is None:
+        return [(*whole[0], None)]
+    copy = free.get()
+    try:
+        log = check(copy, crate.name, pairs)
+    finally:
+        free.put(copy)
+    errors = errors_of(log)
+    return [(name, f, program(log, errors, f) if f else definition(crate, errors, theorem)) for name, f in whole]
+
+
+def main():
+    said = pathlib.Path(sys.argv[1]).read_text(encoding="utf-8", errors="replace")
+    root = pathlib.Path(sys.argv[2] if len(sys.argv) > 2 else pathlib.Path(__file__).resolve().parent.parent)
+    lines = dict(re.findall(r"^rt: must-fail (\S+)\.edit: (.*)$", said, re.M))
+    edits = sorted(root.glob("crates/*/must-fail/*.edit"))
+    for edit in edits:
+        read_edit(edit)
+        if f"{edit.parent.parent.name}/{edit.stem}" not in lines:
+            stop(f"{edit}: no line of it in {sys.argv[1]}; `rt ci` and `rt must-fail` print one")
+    shown = wrong = 0
+    at_once = min(4, len(os.sched_getaffinity(0)))
+    with tempfile.TemporaryDirectory() as work, concurrent.futures.ThreadPoolExecutor(at_once) as pool:
+        free = queue.SimpleQueue()
+        for n in range(at_once):
+            copy = pathlib.Path(work) / str(n)
+            shutil.copytree(root / "crates", copy / "crates", ignore=shutil.ignore_patterns("out", "must-fail"))
+            shutil.copy(root / "crates.txt", copy)
+            free.put(copy)
+        told = pool.map(lambda it: judge(it, lines[f"{it.parent.parent.name}/{it.stem}"], free), edits)
+        for edit, found in zip(edits, told):
+            for name, function, why in found:
+                wrong += 1
+                shown += why is None
+                if why:
+                    within = f" in {function}" if function else ""
+                    print(f"{edit.parent.parent.name}/{edit.stem}: {name}{within}: {why}", file=sys.stderr)
+    print(f"wrong programs: {shown} of {wrong} refused for a fact")
+    return shown != wrong
+
+
+sys.exit(main())

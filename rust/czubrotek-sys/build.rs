@@ -16,14 +16,16 @@ fn main() {
 fn build() -> Result<(), String> {
     let root = folder("CARGO_MANIFEST_DIR")?.join("../..");
     let root = fs::canonicalize(&root).map_err(|e| format!("{}: {e}", root.display()))?;
-    for input in ["crates", "crates.txt"] {
-        println!("cargo:rerun-if-changed={}", root.join(input).display());
+    let inputs = inputs(&root)?;
+    for input in &inputs {
+        println!("cargo:rerun-if-changed={}", input.display());
     }
-    let archive = root.join("target/staticlib/libexports.a");
-    let stamp = root.join("target/staticlib/exports.stamp");
-    // `rt staticlib` proves `exports` at every call. The stamp saves that where neither the sources nor the archive has
+    let made = root.join("crates/exports/out");
+    let archive = made.join("libexports.a");
+    let stamp = made.join("libexports.stamp");
+    // `rt lib` proves `exports` at every call. The stamp saves that where neither the sources nor the archive has
     // changed; the sources are read before the proof, so that an edit meanwhile is seen the next time.
-    let sources = digest(&root, &sources(&root)?)?;
+    let sources = digest(&root, &files(inputs)?)?;
     let of_archive = || {
         Ok(format!(
             "{sources} {}\n",
@@ -32,10 +34,10 @@ fn build() -> Result<(), String> {
     };
     let stamped = fs::read_to_string(&stamp).map_err(|e| e.to_string());
     if stamped.is_err() || stamped != of_archive() {
-        prove(&root)?;
+        prove(&root.join("crates/exports"))?;
         fs::write(&stamp, of_archive()?).map_err(|e| format!("{}: {e}", stamp.display()))?;
     }
-    // Linked from a copy, as `rt ci` removes the repository's target/.
+    // Linked from a copy, as `rt ci` removes what stands in out/.
     let out = folder("OUT_DIR")?;
     fs::copy(&archive, out.join("libexports.a"))
         .map_err(|e| format!("{}: {e}", archive.display()))?;
@@ -50,11 +52,11 @@ fn folder(variable: &str) -> Result<PathBuf, String> {
         .ok_or(format!("{variable} is not set: build with cargo"))
 }
 
-/// Runs `rt staticlib exports`; what it printed is part of the error.
-fn prove(root: &Path) -> Result<(), String> {
+/// Runs `rt lib` in the crate `exports`; what it printed is part of the error.
+fn prove(exports: &Path) -> Result<(), String> {
     let ran = Command::new("rt")
-        .args(["staticlib", "exports"])
-        .current_dir(root)
+        .arg("lib")
+        .current_dir(exports)
         .output()
         .map_err(|e| {
             format!(
@@ -66,31 +68,41 @@ fn prove(root: &Path) -> Result<(), String> {
         return Ok(());
     }
     Err(format!(
-        "`rt staticlib exports` failed ({}) in {}. Mend what it says there, then build again. It said:\n{}{}",
+        "`rt lib` failed ({}) in {}. Mend what it says there, then build again. It said:\n{}{}",
         ran.status,
-        root.display(),
+        exports.display(),
         String::from_utf8_lossy(&ran.stdout),
         String::from_utf8_lossy(&ran.stderr),
     ))
 }
 
-/// Every file that the archive may depend on, in the order of names.
-fn sources(root: &Path) -> Result<Vec<PathBuf>, String> {
-    let mut files = vec![root.join("crates.txt")];
-    let mut folders = vec![root.join("crates")];
-    while let Some(folder) = folders.pop() {
-        let entries = fs::read_dir(&folder).map_err(|e| format!("{}: {e}", folder.display()))?;
-        for path in entries.flatten().map(|entry| entry.path()) {
-            let kept = if path.is_dir() {
-                &mut folders
-            } else {
-                &mut files
-            };
-            kept.push(path);
+/// The list of crates and the folders of each crate that the archive may depend on: not what `rt` makes, in out/.
+fn inputs(root: &Path) -> Result<Vec<PathBuf>, String> {
+    let mut inputs = vec![root.join("crates.txt")];
+    for one in entries(&root.join("crates"))? {
+        let folders = ["src", "specs", "proofs"].map(|part| one.join(part));
+        inputs.extend(folders.into_iter().filter(|folder| folder.is_dir()));
+    }
+    Ok(inputs)
+}
+
+/// Every file in these folders, and each of these that is a file, in the order of names.
+fn files(mut paths: Vec<PathBuf>) -> Result<Vec<PathBuf>, String> {
+    let mut files = Vec::new();
+    while let Some(path) = paths.pop() {
+        if path.is_dir() {
+            paths.extend(entries(&path)?);
+        } else {
+            files.push(path);
         }
     }
     files.sort();
     Ok(files)
+}
+
+fn entries(folder: &Path) -> Result<Vec<PathBuf>, String> {
+    let entries = fs::read_dir(folder).map_err(|e| format!("{}: {e}", folder.display()))?;
+    Ok(entries.flatten().map(|entry| entry.path()).collect())
 }
 
 /// A digest of files, by name below the root and content.
