@@ -50,12 +50,19 @@ pub(crate) fn put_hex(out: &mut [u8], n: usize, t: &[u8]) -> usize {
     n
 }
 
+// A number in decimal digits, the highest first.
+fn put_decimal(out: &mut [u8], n: usize, x: usize) -> usize {
+    if x < 10 {
+        return put(out, n, b'0' + x as u8);
+    }
+    let n = put_decimal(out, n, x / 10);
+    put(out, n, b'0' + (x % 10) as u8)
+}
+
 // A space and a number.
 pub(crate) fn put_number(out: &mut [u8], n: usize, x: usize) -> usize {
-    let mut digits = [0u8; 20];
-    let k = io::decimal(x as u64, &mut digits);
     let n = put(out, n, b' ');
-    put_text(out, n, &digits[..k])
+    put_decimal(out, n, x)
 }
 
 fn nth(numbers: [usize; 4], i: usize) -> usize {
