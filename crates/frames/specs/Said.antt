@@ -1,7 +1,5 @@
 -- What a writer holds and what waits, taken together, after a text was said.
-use Rattle.std.specs.Prelude.{◌≡◌, ℕ, List, ◌++◌, ⊤}
-use Rattle.core.specs.declared.option.Option.{Option}
-use Rattle.core.specs.declared.option.Option.TheVariants.{None, Some}
+use Rattle.std.specs.Prelude.{◌≡◌, ℕ, List, ◌++◌, ⊤, Option, None, Some}
 
 -- the known bytes of a writer and then what waits grow by a text: nothing is lost, doubled or put in another order
 abbrev pub Says : Option (List ℕ) → List ℕ → Option (List ℕ) → List ℕ → List ℕ → Type 0
