@@ -1,9 +1,11 @@
 // The lines of the input: a line that lies within one block is answered where it stands, any other is held until it ends.
-ghost use Rattle.std.specs.Prelude.{◌≤◌, ◌<◌, length};
+ghost use Rattle.std.specs.Prelude.{◌≤◌, ◌<◌, length, IfOk};
 
-use crate::output::{Output, copy, flush, say};
+use crate::output::{Output, copy};
 use frame::Answer;
 use json_model::Verdict;
+use std::io;
+use std::io::Write;
 
 // How many characters of the last line are held, how many frames there were and how many of them were accepted, and the
 // output.
@@ -15,14 +17,14 @@ pub(crate) struct Run {
     pub output: Output,
 }
 
-fn is_accepted(v: Verdict) -> bool {
+fn is_accepted(v: &Verdict) -> bool {
     match v {
         Verdict::Accepted => true,
         Verdict::Refused(_) => false,
     }
 }
 
-fn is_ok(a: Answer) -> bool {
+fn is_ok(a: &Answer) -> bool {
     match a {
         Answer::Long => false,
         Answer::Hex => false,
@@ -41,20 +43,14 @@ fn one_more(n: u64, counts: bool) -> u64 {
 }
 
 // The answer of a line, counted and written.
-fn answer_line(out: &mut [u8], run: Run, line: &[u8]) -> Run {
+fn answer_line<W: Write>(to: &mut W, run: &mut Run, line: &[u8]) -> io::Result<()> {
     let a = frame::answer_to(line);
-    let frames = one_more(run.frames, true);
-    let ok = one_more(run.ok, is_ok(a));
+    run.held = 0;
+    run.frames = one_more(run.frames, true);
+    run.ok = one_more(run.ok, is_ok(&a));
     let mut text = [0u8; 80];
-    let n = frame::text(frames, a, &mut text);
-    let before = run.output;
-    let output = say(out, before, &text[..n]);
-    Run {
-        held: 0,
-        frames,
-        ok,
-        output,
-    }
+    let n = frame::text(run.frames, a, &mut text);
+    run.output.say(to, &text[..n])
 }
 
 // The place of the next LF, or the end of the block.
@@ -87,82 +83,67 @@ fn hold(line: &mut [u8], held: usize, part: &[u8]) -> usize {
 }
 
 // The last part of a line.
-fn end_line(line: &mut [u8], out: &mut [u8], run: Run, part: &[u8]) -> Run {
+fn end_line<W: Write>(to: &mut W, line: &mut [u8], run: &mut Run, part: &[u8]) -> io::Result<()> {
     if run.held == 0 {
-        return answer_line(out, run, part);
+        return answer_line(to, run, part);
     }
     let end = hold(line, run.held, part);
-    answer_held(line, out, run, end)
+    answer_held(to, line, run, end)
 }
 
-fn answer_held(line: &[u8], out: &mut [u8], run: Run, end: usize) -> Run {
+fn answer_held<W: Write>(to: &mut W, line: &[u8], run: &mut Run, end: usize) -> io::Result<()> {
     if end <= line.len() {
-        return answer_line(out, run, &line[..end]);
+        return answer_line(to, run, &line[..end]);
     }
-    run
+    Ok(())
 }
 
-// The run after a line or a part of one, and how far into the block it came.
-#[derive(Drop)]
-struct Taken {
-    run: Run,
-    at: usize,
-}
-
-// Takes the next line of a block, or the part of it that the block has.
-fn take_line(line: &mut [u8], out: &mut [u8], run: Run, block: &[u8], start: usize) -> Taken
+// Takes the next line of a block, or the part of it that the block has, and answers how far into the block it came.
+fn take_line<W: Write>(
+    to: &mut W,
+    line: &mut [u8],
+    run: &mut Run,
+    block: &[u8],
+    start: usize,
+) -> io::Result<usize>
     requires { start < length block.now }
-    ensures { (start < result.at) × (result.at ≤ length block.now) }
+    ensures { IfOk result (λ at. (start < at) × (at ≤ length block.now)) }
 {
     let end = line_end(block, start);
     if end < block.len() {
-        let next = end_line(line, out, run, &block[start..end]);
-        return Taken {
-            run: next,
-            at: end + 1,
-        };
+        end_line(to, line, run, &block[start..end])?;
+        return Ok(end + 1);
     }
-    let held = hold(line, run.held, &block[start..]);
-    let output = run.output;
-    let next = Run {
-        held,
-        frames: run.frames,
-        ok: run.ok,
-        output,
-    };
-    Taken {
-        run: next,
-        at: block.len(),
-    }
+    run.held = hold(line, run.held, &block[start..]);
+    Ok(block.len())
 }
 
 // Takes all lines of a block.
-pub(crate) fn take_block(line: &mut [u8], out: &mut [u8], run: Run, block: &[u8]) -> Run {
-    let mut next = run;
+pub(crate) fn take_block<W: Write>(
+    to: &mut W,
+    line: &mut [u8],
+    run: &mut Run,
+    block: &[u8],
+) -> io::Result<()> {
     let mut at = 0;
     while at < block.len() {
-        let t = take_line(line, out, next, block, at);
-        next = t.run;
-        at = t.at;
+        at = take_line(to, line, run, block, at)?;
     }
-    next
+    Ok(())
 }
 
 // The total, and all that waits.
-fn say_total(out: &mut [u8], run: Run) {
+fn say_total<W: Write>(to: &mut W, run: &mut Run) -> io::Result<()> {
     let mut text = [0u8; 80];
     let n = frame::total(run.frames, run.ok, &mut text);
-    let before = run.output;
-    let output = say(out, before, &text[..n]);
-    flush(out, output);
+    run.output.say(to, &text[..n])?;
+    run.output.flush(to)
 }
 
 // The end of the input: a line that is held counts, then comes the total.
-pub(crate) fn finish(line: &[u8], out: &mut [u8], run: Run) {
-    if run.held == 0 {
-        say_total(out, run);
-        return;
+pub(crate) fn finish<W: Write>(to: &mut W, line: &[u8], run: &mut Run) -> io::Result<()> {
+    if 0 < run.held {
+        answer_held(to, line, run, run.held)?;
     }
-    let last = answer_held(line, out, run, run.held);
-    say_total(out, last);
+    say_total(to, run)
 }

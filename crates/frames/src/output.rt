@@ -1,103 +1,80 @@
 // The output, gathered into a block and written when the block is full.
-ghost use Rattle.std.specs.Prelude.{◌≡◌, ◌+◌, ◌≤◌, length};
+ghost use Rattle.std.specs.Prelude.{◌≡◌, ◌+◌, ◌≤◌, List, ℕ, [], ◌++◌, length, take, drop, OnOk};
+ghost use Rattle.std.specs.Io.KnownBytes.{Appends};
+ghost use Rattle.frames.specs.Said.{Says};
 
-use libc::{EINTR, STDERR_FILENO, STDOUT_FILENO};
+use std::io;
+use std::io::Write;
+use std::marker::Model;
 
-// How many bytes wait in the block, and whether every write has succeeded.
+// How many bytes a block has, of the input and of the output.
+pub(crate) const BLOCK: usize = 65536;
+
+// What waits to be written: the first bytes of a block.
 #[derive(Drop)]
 pub(crate) struct Output {
-    pub waiting: usize,
-    pub good: bool,
+    block: [u8; BLOCK],
+    waiting: usize,
 }
 
-// How many bytes a write took, and whether there may be another.
-#[derive(Drop)]
-struct Put {
-    n: usize,
-    more: bool,
+impl Model for Output {
+    ghost Value = { List ℕ };
+
+    ghost view = { λ o. take o.waiting o.block };
+
+    ghost invariant = { λ o. o.waiting ≤ 65536 };
 }
 
-// Writes once. A write that a signal interrupted is tried again; any other that takes nothing has failed, and is named
-// on standard error.
-fn write_once(text: &[u8]) -> Put
-    ensures { result.n ≤ length text.now }
-{
-    let put = libc::write(STDOUT_FILENO, text);
-    if 0 < put {
-        let n = io::count(put, text);
-        return Put { n, more: true };
-    }
-    if put == 0 {
-        io::write_all(STDERR_FILENO, b"write: nothing was taken\n");
-        return Put { n: 0, more: false };
-    }
-    if os::errno() == EINTR {
-        return Put { n: 0, more: true };
-    }
-    os::fail(b"write");
-    Put { n: 0, more: false }
-}
-
-// Writes all of a text, and answers whether it did. It counts its turns down, as the reading does.
-fn write_all(text: &[u8]) -> bool {
-    let mut done = 0;
-    let mut more = true;
-    let mut turns = u64::MAX;
-    while 0 < turns && more && done < text.len() {
-        let put = write_once(&text[done..]);
-        done += put.n;
-        more = put.more;
-        turns -= 1;
-    }
-    done == text.len()
-}
-
-// Writes what waits.
-pub(crate) fn flush(out: &[u8], o: Output) -> Output
-    ensures { result.waiting ≡ 0 }
-{
-    if o.good {
-        if o.waiting <= out.len() {
-            let good = write_all(&out[..o.waiting]);
-            return Output { waiting: 0, good };
+impl Output {
+    pub(crate) fn new() -> Output
+        ensures { result ≡ [] }
+    {
+        Output {
+            block: [0; BLOCK],
+            waiting: 0,
         }
     }
-    Output {
-        waiting: 0,
-        good: false,
-    }
-}
 
-// Puts a text after what waits.
-fn append(out: &mut [u8], o: Output, text: &[u8]) -> Output
-    requires { o.waiting + length text.now ≤ length out.old }
-{
-    copy(out, o.waiting, text, text.len());
-    Output {
-        waiting: o.waiting + text.len(),
-        good: o.good,
+    // Writes what waits. After a failed write nothing waits either.
+    pub(crate) fn flush<W: Write>(&mut self, to: &mut W) -> io::Result<()>
+        ensures empty { self.new ≡ [] }
+        ensures written { OnOk result (Appends (W.contents to.old) (W.contents to.new) self.old) }
+    {
+        let waiting = self.waiting;
+        self.waiting = 0;
+        to.write_all(&self.block[..waiting])
     }
-}
 
-// Puts a text after what waits, or first writes that, if there is no room. A text that is longer than the block is left out.
-pub(crate) fn say(out: &mut [u8], o: Output, text: &[u8]) -> Output {
-    if out.len() < text.len() {
-        return o;
+    // Puts a text after what waits.
+    fn append(&mut self, text: &[u8])
+        requires { length self.old + length text.now ≤ 65536 }
+        ensures { self.new ≡ self.old ++ text.now }
+    {
+        copy(&mut self.block, self.waiting, text, text.len());
+        self.waiting += text.len();
     }
-    if o.waiting <= out.len() - text.len() {
-        return append(out, o, text);
+
+    // Puts a text after what waits, or first writes that, if there is no room. A text that is longer than the block is left
+    // out.
+    pub(crate) fn say<W: Write>(&mut self, to: &mut W, text: &[u8]) -> io::Result<()>
+        ensures { length text.now ≤ 65536 → OnOk result
+            (Says (W.contents to.old) self.old (W.contents to.new) self.new text.now) }
+    {
+        if BLOCK < text.len() {
+            return Ok(());
+        }
+        if BLOCK - text.len() < self.waiting {
+            self.flush(to)?;
+        }
+        self.append(text);
+        Ok(())
     }
-    let empty = flush(out, o);
-    append(out, empty, text)
 }
 
 // Copies the first n bytes of a text to a place.
 pub(crate) fn copy(out: &mut [u8], at: usize, text: &[u8], n: usize)
     requires { (at + n ≤ length out.old) × (n ≤ length text.now) }
+    ensures { out.new ≡ take at out.old ++ take n text.now ++ drop (at + n) out.old }
 {
-    let mut i = 0;
-    while i < n {
-        out[at + i] = text[i];
-        i += 1;
-    }
+    out[at..at + n].copy_from_slice(&text[..n]);
 }

@@ -1,12 +1,13 @@
 // BinaryJson: the deepest document and one level more, with marks enough.
 use crate::documents::put_four;
-use crate::say::{say, verdict};
+use crate::say::verdict;
+use std::io;
 
-fn check(case: &[u8], doc: &[u8]) {
+fn check(rt: &impl Print, case: &str, doc: &[u8]) -> io::Result<()> {
     let mut marks = [0u8; 256];
-    say(case);
-    verdict(binary_json::check(doc, &mut marks));
-    say(b"\n");
+    print!(rt; "{case}")?;
+    verdict(rt, binary_json::check(doc, &mut marks))?;
+    println!(rt)
 }
 
 // The array at level i: its Meta, and its Entry, which names the next.
@@ -25,19 +26,19 @@ fn put_levels(doc: &mut [u8], last: u8) {
     }
 }
 
-fn deepest() {
+fn deepest(rt: &impl Print) -> io::Result<()> {
     let mut doc = [0u8; 516];
     put_levels(&mut doc, 63);
-    check(b"B depth 64 = ", &doc);
+    check(rt, "B depth 64 = ", &doc)
 }
 
-fn too_deep() {
+fn too_deep(rt: &impl Print) -> io::Result<()> {
     let mut doc = [0u8; 524];
     put_levels(&mut doc, 64);
-    check(b"B depth 65 = ", &doc);
+    check(rt, "B depth 65 = ", &doc)
 }
 
-pub(crate) fn run() {
-    deepest();
-    too_deep();
+pub(crate) fn run(rt: &impl Print) -> io::Result<()> {
+    deepest(rt)?;
+    too_deep(rt)
 }

@@ -1,52 +1,54 @@
 // Fractured JSON: depths, strings, keys, indices and the key table.
 use crate::documents::{put, put_run, put_two};
-use crate::say::{number, say, two, verdict};
+use crate::say::{number, two, verdict};
 use fractured_json::Text;
+use std::io;
 
-fn say_word(w: u32) {
-    number(w as usize);
+fn say_word(rt: &impl Print, w: u32) -> io::Result<()> {
+    number(rt, w as usize)
 }
 
 // The words of the pair before the first `end` words.
-fn say_pair(keys: &[u32], end: usize) {
+fn say_pair(rt: &impl Print, keys: &[u32], end: usize) -> io::Result<()> {
     if end <= keys.len() {
         if 2 <= end {
-            say_word(keys[end - 2]);
-            say_word(keys[end - 1]);
+            say_word(rt, keys[end - 2])?;
+            say_word(rt, keys[end - 1])?;
         }
     }
+    Ok(())
 }
 
 // The verdict, the number of pairs and the last pair.
-fn check_with(case: &[u8], doc: &[u8], keys: &mut [u32]) {
-    say(case);
+fn check_with(rt: &impl Print, case: &str, doc: &[u8], keys: &mut [u32]) -> io::Result<()> {
+    print!(rt; "{case}")?;
     let list = [0u8; 3];
     let c = fractured_json::check(doc, &list, keys);
     let v = c.verdict;
     let n = c.count;
-    verdict(v);
-    number(n);
+    verdict(rt, v)?;
+    number(rt, n)?;
     if n <= 4096 {
-        say_pair(keys, 2 * n);
+        say_pair(rt, keys, 2 * n)?;
     }
-    say(b"\n");
+    println!(rt)
 }
 
-fn check(case: &[u8], doc: &[u8]) {
+fn check(rt: &impl Print, case: &str, doc: &[u8]) -> io::Result<()> {
     let mut keys = [0u32; 2];
-    check_with(case, doc, &mut keys);
+    check_with(rt, case, doc, &mut keys)
 }
 
 // Place and length of the string that is the root.
-fn string(case: &[u8], doc: &[u8]) {
-    say(case);
+fn string(rt: &impl Print, case: &str, doc: &[u8]) -> io::Result<()> {
+    print!(rt; "{case}")?;
     let list = [0u8; 3];
     let t = fractured_json::string(doc, &list, 3);
     match t {
-        Text::At { place, len } => two(place, len),
-        Text::Refused(_) => say(b" refused"),
+        Text::At { place, len } => two(rt, place, len)?,
+        Text::Refused(_) => print!(rt; " refused")?,
     }
-    say(b"\n");
+    println!(rt)
 }
 
 // The header and the root's type byte.
@@ -66,75 +68,87 @@ fn put_levels(doc: &mut [u8], last: usize) {
     put(doc, last, 0x9E);
 }
 
-fn deepest() {
+fn deepest(rt: &impl Print) -> io::Result<()> {
     let mut doc = [0u8; 67];
     put_levels(&mut doc, 66);
-    check(b"F depth 64 = ", &doc);
+    check(rt, "F depth 64 = ", &doc)
 }
 
-fn too_deep() {
+fn too_deep(rt: &impl Print) -> io::Result<()> {
     let mut doc = [0u8; 68];
     put_levels(&mut doc, 67);
-    check(b"F depth 65 = ", &doc);
+    check(rt, "F depth 65 = ", &doc)
 }
 
 // ---- strings of 87 and 88 bytes
 
-fn longest_tiny() {
+fn longest_tiny(rt: &impl Print) -> io::Result<()> {
     let mut doc = [0u8; 91];
     open(&mut doc, 0x6D);
-    check(b"F string 87 = ", &doc);
-    string(b"F string 87 stands at and has", &doc);
+    check(rt, "F string 87 = ", &doc)?;
+    string(rt, "F string 87 stands at and has", &doc)
 }
 
-fn shortest_sized() {
+fn shortest_sized(rt: &impl Print) -> io::Result<()> {
     let mut doc = [0u8; 93];
     open(&mut doc, 0x0D);
     put(&mut doc, 4, 88);
-    check(b"F string 88 = ", &doc);
-    string(b"F string 88 stands at and has", &doc);
+    check(rt, "F string 88 = ", &doc)?;
+    string(rt, "F string 88 stands at and has", &doc)
 }
 
 // ---- keys of 83 and 84 bytes, with null
 
-fn longest_tiny_key() {
+fn longest_tiny_key(rt: &impl Print) -> io::Result<()> {
     let mut doc = [0u8; 89];
     open(&mut doc, 0x6F);
     put(&mut doc, 4, 0x56);
-    check(b"F key 83 = ", &doc);
+    check(rt, "F key 83 = ", &doc)
 }
 
-fn shortest_sized_key() {
+fn shortest_sized_key(rt: &impl Print) -> io::Result<()> {
     let mut doc = [0u8; 91];
     open(&mut doc, 0x6F);
     put(&mut doc, 5, 84);
-    check(b"F key 84 = ", &doc);
+    check(rt, "F key 84 = ", &doc)
 }
 
 // ---- an index of three bytes: as the length of an immediate key, as a back reference and as a global index
 
-fn highest_index() {
+fn highest_index(rt: &impl Print) -> io::Result<()> {
     check(
-        b"F immediate FFFF03 = ",
+        rt,
+        "F immediate FFFF03 = ",
         b"\x46\x4A\x01\x6F\x00\xFF\xFF\x03\x00",
-    );
-    check(b"F back FFFF03 = ", b"\x46\x4A\x01\x6F\x01\xFF\xFF\x03\x00");
+    )?;
     check(
-        b"F global FFFF03 = ",
+        rt,
+        "F back FFFF03 = ",
+        b"\x46\x4A\x01\x6F\x01\xFF\xFF\x03\x00",
+    )?;
+    check(
+        rt,
+        "F global FFFF03 = ",
         b"\x46\x4A\x01\x6F\x02\xFF\xFF\x03\x00",
-    );
+    )
 }
 
-fn too_high_index() {
+fn too_high_index(rt: &impl Print) -> io::Result<()> {
     check(
-        b"F immediate FFFF04 = ",
+        rt,
+        "F immediate FFFF04 = ",
         b"\x46\x4A\x01\x6F\x00\xFF\xFF\x04\x00",
-    );
-    check(b"F back FFFF04 = ", b"\x46\x4A\x01\x6F\x01\xFF\xFF\x04\x00");
+    )?;
     check(
-        b"F global FFFF04 = ",
+        rt,
+        "F back FFFF04 = ",
+        b"\x46\x4A\x01\x6F\x01\xFF\xFF\x04\x00",
+    )?;
+    check(
+        rt,
+        "F global FFFF04 = ",
         b"\x46\x4A\x01\x6F\x02\xFF\xFF\x04\x00",
-    );
+    )
 }
 
 // ---- the key table
@@ -157,30 +171,30 @@ fn put_members(doc: &mut [u8], n: u16) {
     }
 }
 
-fn full_table() {
+fn full_table(rt: &impl Print) -> io::Result<()> {
     let mut keys = [0u32; 8192];
     let mut doc = [0u8; 16390];
     put_members(&mut doc, 4096);
-    check_with(b"F keys 4096 = ", &doc, &mut keys);
+    check_with(rt, "F keys 4096 = ", &doc, &mut keys)
 }
 
 // The table has words for one pair more, and room for none.
-fn one_key_more() {
+fn one_key_more(rt: &impl Print) -> io::Result<()> {
     let mut keys = [0u32; 8194];
     let mut doc = [0u8; 16394];
     put_members(&mut doc, 4097);
-    check_with(b"F keys 4097 = ", &doc, &mut keys);
+    check_with(rt, "F keys 4097 = ", &doc, &mut keys)
 }
 
-pub(crate) fn run() {
-    deepest();
-    too_deep();
-    longest_tiny();
-    shortest_sized();
-    longest_tiny_key();
-    shortest_sized_key();
-    highest_index();
-    too_high_index();
-    full_table();
-    one_key_more();
+pub(crate) fn run(rt: &impl Print) -> io::Result<()> {
+    deepest(rt)?;
+    too_deep(rt)?;
+    longest_tiny(rt)?;
+    shortest_sized(rt)?;
+    longest_tiny_key(rt)?;
+    shortest_sized_key(rt)?;
+    highest_index(rt)?;
+    too_high_index(rt)?;
+    full_table(rt)?;
+    one_key_more(rt)
 }

@@ -9,7 +9,9 @@ mod documents;
 mod fractured;
 mod say;
 
-fn main() {
-    binary::run();
-    fractured::run();
+use std::io;
+
+fn main(rt: HostRuntime) -> io::Result<()> {
+    binary::run(&rt)?;
+    fractured::run(&rt)
 }

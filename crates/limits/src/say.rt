@@ -1,28 +1,22 @@
 // How a case and its answer are written.
 use json_model::Verdict;
-use libc::STDOUT_FILENO;
-
-pub(crate) fn say(t: &[u8]) {
-    io::write_all(STDOUT_FILENO, t);
-}
+use std::io;
 
 // A space and a number.
-pub(crate) fn number(n: usize) {
-    say(b" ");
-    io::print_decimal(STDOUT_FILENO, n as u64);
+pub(crate) fn number(rt: &impl Print, n: usize) -> io::Result<()> {
+    print!(rt; " {n}")
 }
 
-pub(crate) fn two(a: usize, b: usize) {
-    number(a);
-    number(b);
+pub(crate) fn two(rt: &impl Print, a: usize, b: usize) -> io::Result<()> {
+    print!(rt; " {a} {b}")
 }
 
-pub(crate) fn verdict(v: Verdict) {
+pub(crate) fn verdict(rt: &impl Print, v: Verdict) -> io::Result<()> {
     match v {
-        Verdict::Accepted => say(b"ok"),
+        Verdict::Accepted => print!(rt; "ok"),
         Verdict::Refused(r) => {
-            say(b"no");
-            two(r.number as usize, r.place);
+            print!(rt; "no")?;
+            two(rt, r.number as usize, r.place)
         }
     }
 }

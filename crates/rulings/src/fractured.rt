@@ -114,8 +114,9 @@ fn checked(c: Checked) -> Answer {
 
 fn check(out: &mut [u8], n: usize, doc: &[u8], list: &[u8], keys: &mut [u32]) -> usize {
     let c = fractured_json::check(doc, list, keys);
+    let count = c.count;
     let n = put_answer(out, n, checked(c));
-    pairs(out, n, keys, c.count)
+    pairs(out, n, keys, count)
 }
 
 // ---- the lent key table

@@ -2,7 +2,7 @@
 use text::same;
 
 // What a part says, a number or the length of a text.
-#[derive(Drop)]
+#[derive(Clone, Copy)]
 pub enum Said {
     Is(usize),
     Nothing,

@@ -2,7 +2,7 @@
 use crate::parse::{Said, bytes, cut, part, which};
 use crate::spell::put_text;
 use crate::{binary, fractured};
-use libc::STDOUT_FILENO;
+use std::io;
 use text::same;
 
 // How many bytes of the mark ` = ` are met, once `c` is read after `k` of them.
@@ -50,33 +50,29 @@ fn answer(out: &mut [u8], n: usize, row: &[u8]) -> usize {
     }
 }
 
-pub(crate) fn say(t: &[u8]) {
-    io::write_all(STDOUT_FILENO, t);
-}
-
 // A remark and a text, which end a line.
-fn say_last(remark: &[u8], t: &[u8]) {
-    say(remark);
-    say(t);
-    say(b"\n");
+fn say_last(rt: &impl Print, remark: &str, t: &[u8]) -> io::Result<()> {
+    print!(rt; "{remark}")?;
+    rt.write_all(t)?;
+    println!(rt)
 }
 
 // Writes a row with its answer, which are put together in `out`, and answers whether the given one agrees.
-pub(crate) fn run(out: &mut [u8], line: &[u8]) -> bool {
+pub(crate) fn run(rt: &impl Print, out: &mut [u8], line: &[u8]) -> io::Result<bool> {
     let at = after_mark(line);
     let row = cut(line, 0, at);
     let given = cut(line, at, line.len());
     let from = put_text(out, 0, row);
     let to = answer(out, from, row);
     if to == from {
-        say_last(b"UNREADABLE ", line);
-        return false;
+        say_last(rt, "UNREADABLE ", line)?;
+        return Ok(false);
     }
-    say(cut(out, 0, to));
+    rt.write_all(cut(out, 0, to))?;
     if same(cut(out, from, to), given) {
-        say(b"\n");
-        return true;
+        println!(rt)?;
+        return Ok(true);
     }
-    say_last(b" WRONG, given: ", given);
-    false
+    say_last(rt, " WRONG, given: ", given)?;
+    Ok(false)
 }

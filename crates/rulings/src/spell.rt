@@ -1,9 +1,14 @@
 // How answers are spelled: bytes are put into a block after the first `n`, and each function answers how many there are then.
+ghost use Rattle.std.specs.Prelude.{[], ◌∷◌, decimal};
+ghost use Rattle.rulings.specs.Puts.{Puts};
+
 use crate::answers::Answer;
 use crate::parse::part;
 
 // A byte, where there is room.
-pub(crate) fn put(out: &mut [u8], n: usize, x: u8) -> usize {
+pub(crate) fn put(out: &mut [u8], n: usize, x: u8) -> usize
+    ensures { Puts out.old n (x ∷ []) out.new result }
+{
     if n < out.len() {
         out[n] = x;
         return n + 1;
@@ -50,12 +55,23 @@ pub(crate) fn put_hex(out: &mut [u8], n: usize, t: &[u8]) -> usize {
     n
 }
 
+// A number in decimal digits, the highest first.
+fn put_decimal(out: &mut [u8], n: usize, x: usize) -> usize
+    ensures { Puts out.old n (decimal x) out.new result }
+{
+    if x < 10 {
+        return put(out, n, b'0' + x as u8);
+    }
+    let n = put_decimal(out, n, x / 10);
+    put(out, n, b'0' + (x % 10) as u8)
+}
+
 // A space and a number.
-pub(crate) fn put_number(out: &mut [u8], n: usize, x: usize) -> usize {
-    let mut digits = [0u8; 20];
-    let k = io::decimal(x as u64, &mut digits);
+pub(crate) fn put_number(out: &mut [u8], n: usize, x: usize) -> usize
+    ensures { Puts out.old n (32 ∷ decimal x) out.new result }
+{
     let n = put(out, n, b' ');
-    put_text(out, n, &digits[..k])
+    put_decimal(out, n, x)
 }
 
 fn nth(numbers: [usize; 4], i: usize) -> usize {
