@@ -1,0 +1,5 @@
+use Rattle.claims.proofs.BinaryJson.{binary_laws}
+use Rattle.claims.proofs.look_up_binary.Goals as goal
+
+pub returns : goal.returns
+returns c = search binary_laws
