@@ -9,7 +9,7 @@ use lib.ListN.{length}
 use mir.Syntax.{w64}
 use mir.Val.{Fits}
 use Rattle.json_model.specs.Limits.{least_binary, longest}
-use Rattle.json_model.specs.Reading.{Reading, ask, refuses, ◌>>=◌, ◌>>◌, need}
+use Rattle.json_model.specs.Reading.{Reading, ask, refuses, ◌>>◌, need}
 use Rattle.json_model.proofs.Reading.{eq→eqb, over, unlike, pass, fail, need_yes, need_no}
 use Rattle.binary_json_rules.specs.Areas.{word, low, high, index, count, slot}
 use Rattle.binary_json_rules.specs.Verdict.{header}

@@ -12,7 +12,7 @@ use Rattle.json_model.specs.Number.{binary64, finite}
 use Rattle.json_model.specs.Reading.{Reading, answer, ask, answers, need, ◌>>=◌}
 use Rattle.json_model.proofs.Reading.{eq→eqb, over, past, unlike, then, stops, pass, fail, need_yes, need_no}
 use Rattle.word.proofs.Laws.{number_part}
-use Rattle.binary_json_rules.specs.Areas.{high, index, count, slot, text, numbers}
+use Rattle.binary_json_rules.specs.Areas.{high, count, slot, text}
 use Rattle.binary_json_rules.specs.Verdict.{slot_named, number_named}
 use Rattle.binary_json_rules.specs.Meaning.{SlotIs}
 use Rattle.binary_json_rules.specs.Questions.{slot_read, text_named}

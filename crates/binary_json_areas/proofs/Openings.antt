@@ -12,7 +12,7 @@ use mir.Val.{Fits}
 use Rattle.json_model.specs.Reading.{Reading, Asked, ask, refuses, ◌>>◌}
 use Rattle.json_model.specs.declared.Refusal.{Refusal}
 use Rattle.json_model.proofs.Reading.{eq→eqb, over, unlike, then, stops, pass, fail, need_yes, need_no}
-use Rattle.binary_json_rules.specs.Areas.{low, high, index, count, slot, text, numbers}
+use Rattle.binary_json_rules.specs.Areas.{low, high, count, slot, text, numbers}
 use Rattle.binary_json_rules.specs.Questions.{opening, tree_word}
 use Rattle.binary_json_areas.specs.Laid.{Framed, Headed, Laid}
 use Rattle.binary_json_areas.specs.Asking.{Open, Opens, WordNamed, WordAt, WordRead}

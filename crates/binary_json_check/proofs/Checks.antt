@@ -10,10 +10,10 @@ use mir.Syntax.{w64}
 use mir.Val.{Fits}
 use Rattle.json_model.specs.Limits.{longest}
 use Rattle.binary_json_theorems.proofs.Marks.{unmarked_within}
-use Rattle.json_model.specs.Reading.{Outcome, halt, done, Reading, ◌>>=◌, ◌>>◌, need}
+use Rattle.json_model.specs.Reading.{Outcome, halt, done, Reading, ◌>>◌, need}
 use Rattle.json_model.specs.declared.Refusal.{Refusal}
 use Rattle.json_model.proofs.Reading.{eq→eqb, over, unlike, then, stops, pass, fail, need_yes, need_no, carry}
-use Rattle.binary_json_rules.specs.Areas.{low, index, count, numbers, kind_of}
+use Rattle.binary_json_rules.specs.Areas.{low, numbers, kind_of}
 use Rattle.binary_json_rules.specs.Verdict.{root_by, lent, all_marked, check, verdict}
 use Rattle.binary_json_rules.specs.Marks.{words, word_place, fill, unmarked}
 use Rattle.binary_json_theorems.proofs.Carried.{carry_header, carry_slots}

@@ -1,6 +1,6 @@
 -- What the lent marks are after the check, whatever its verdict: as they were after 1 to 7 and 15; after 8 to 14, and
 -- where the document is accepted, those of the tree are 0 or 1, and those beyond are as they were.
-use Prim.Native.Nat.{ℕ, zero, suc, ◌+◌, ◌-◌, ◌*◌, ◌≤◌, ◌<◌}
+use Prim.Native.Nat.{ℕ, zero, suc, ◌+◌, ◌*◌, ◌≤◌, ◌<◌}
 use mathlib.Core.Bool.{Bool, true, false}
 use mathlib.Core.List.{List}
 use mathlib.Core.Logic.{◌⊎◌, inl, inr}

@@ -17,7 +17,7 @@ use Rattle.json_model.proofs.Reading.{eq→eqb, then, pass, need_yes}
 use Rattle.binary_json_rules.specs.Areas.{word, low, high, index, count, slot, content, numbers, kind_of, t_container, type_of}
 use Rattle.binary_json_rules.specs.Meaning.{SlotIs, NumberIs, EntryIs, EntriesAre, MembersAre, ScalarIs, ContainerIs, Placed, PlacedAll, PlacedMembers, PlacedUnder, within, bodies, bodies_all, bodies_members, bodies_from, SlotGood, Means}
 use Rattle.binary_json_rules.specs.Verdict.{header, ascends, slot_rules, slots, slot_named, number_named, key_entries, entry_by, entry, entries, mark_body, container_by, container, scalar, root_by, lent, all_marked, check}
-use Rattle.binary_json_rules.specs.Marks.{words, word_at, clear, fill, unmarked}
+use Rattle.binary_json_rules.specs.Marks.{words, word_at, fill, unmarked}
 use Rattle.binary_json_theorems.proofs.Nodes.{Aligned, past_meta}
 use Rattle.binary_json_theorems.proofs.Marks.{Left, body_left, nothing_left, left_then, room, fill_length, fill_in, unmarked_none}
 

@@ -9,7 +9,7 @@ use native.Mathlib.Omega.{arith}
 use Rattle.json_model.specs.Reading.{ask, answers}
 use Rattle.json_model.specs.Tree.{Tree, null, bool, num, str, arr, obj, Trees, none, more, Members, end, member, size, sizem, ElementIs, MemberIs}
 use Rattle.json_model.specs.Node.{Node, leaf, list, dict, Nodes, Fields, bare, bares, barem, NodeIs, FieldIs, Within, itself, element, value}
-use Rattle.json_model.proofs.Tree.{element_at_lem, element_below, member_at_lem, member_below}
+use Rattle.json_model.proofs.Tree.{element_at_lem, member_at_lem}
 use Rattle.binary_json_rules.specs.Areas.{word, low, high, content, k_scalar, kind_of, t_container, type_of}
 use Rattle.binary_json_rules.specs.Meaning.{SlotIs, EntryIs, ContainerIs, Means}
 use Rattle.binary_json_rules.specs.TreeOf.{tree_of}

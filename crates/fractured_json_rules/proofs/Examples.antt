@@ -13,7 +13,6 @@ use lib.ListN.{length, get_or, replicate}
 use Rattle.json_model.specs.Bytes.{number, part, hex}
 use Rattle.json_model.specs.Choose.{choose}
 use Rattle.json_model.specs.Limits.{least_fractured, longest, deepest}
-use Rattle.json_model.specs.Node as Node
 use Rattle.json_model.specs.Node.{Scalar, s_null, s_bool, s_num, s_str, Node, leaf, dict, nil, cons, last, field}
 use Rattle.json_model.specs.Number.{binary32, scaled, finite, magnitude, float_tree, whole_tree, signed_tree}
 use Rattle.json_model.specs.Reading.{Reading, halt, done, follow, ◌>>=◌, need, Asked, ask, answers, refuses}
@@ -30,7 +29,6 @@ use Rattle.fractured_json_rules.specs.Verdict.{key_by, new_key, old_key, listed_
 use Rattle.fractured_json_rules.specs.KeyTable.{room_of, stored, Checked, checked}
 use Rattle.fractured_json_rules.specs.TreeOf.{spelled_in, key_number_in, key_end, end_by, key_text_at, value_trees, member_trees, tree_by, tree_at, tree_of}
 use Rattle.fractured_json_rules.specs.TreeOf as TreeOf
-use Rattle.fractured_json_rules.specs.Leads as Leads
 use Rattle.fractured_json_rules.specs.Leads.{element_place, key_place, Leads, root, element, FirstOf, StandsFor}
 use Rattle.fractured_json_rules.specs.Answers as Answers
 use Rattle.fractured_json_rules.specs.Answers.{kind_of, value_of}

@@ -4,7 +4,7 @@
 use Rattle.std.specs.Prelude.{ℕ, zero, suc, ◌+◌, Bool, true, false, not, List, [], ◌∷◌, ◌++◌, ltb, leb, eqb, length, get_or}
 use Rattle.json_model.specs.Bytes.{number}
 use Rattle.json_model.specs.Choose.{choose}
-use Rattle.json_model.specs.Reading.{Reading, ◌>>=◌, ◌>>◌, need}
+use Rattle.json_model.specs.Reading.{Reading, ◌>>◌, need}
 use Rattle.json_model.specs.Texts.{compare_texts, is_equal}
 use Rattle.fractured_json_rules.specs.Meaning.{Key, Keys, key_text}
 

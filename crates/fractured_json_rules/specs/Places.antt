@@ -4,7 +4,6 @@
 use Rattle.std.specs.Prelude.{ℕ, List, get_or}
 use Rattle.json_model.specs.Limits.{deepest}
 use Rattle.json_model.specs.Tree.{Tree, null, bool, num, str, arr, obj, Trees, none, more, Members, end, member}
-use Rattle.json_model.specs.Node as Node
 use Rattle.json_model.specs.Node.{s_null, s_bool, s_num, s_str, Node, leaf, dict, Nodes, nil, cons, Fields, last, field, place, bare}
 use Rattle.fractured_json_rules.specs.ByteTables.{Form, f_null, f_bool, f_int, f_float, f_tiny, f_string, f_object, f_array, f_reserved, form_of}
 use Rattle.fractured_json_rules.specs.Meaning.{after_length, Names, Keys}

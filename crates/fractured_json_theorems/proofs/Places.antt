@@ -9,7 +9,6 @@ use lib.ListN.{length, get_or}
 use Rattle.json_model.specs.Limits.{deepest}
 use Rattle.json_model.specs.Reading.{Asked, ask, answers}
 use Rattle.json_model.specs.Tree.{Tree, null, bool, num, str, arr, obj, Trees, none, more, Members, end, member, size, sizem, ElementIs, MemberIs}
-use Rattle.json_model.specs.Node as Node
 use Rattle.json_model.specs.Node.{Node, leaf, dict, Nodes, Fields, scalar_tree, place, bare, bares, barem, NodeIs, FieldIs, Within, itself, element, value}
 use Rattle.json_model.proofs.Tree.{element_at_lem, element_below, member_at_lem, member_below}
 use Rattle.fractured_json_rules.specs.ByteTables.{Len, f_object, f_array, form_of}
@@ -17,7 +16,6 @@ use Rattle.fractured_json_rules.specs.Meaning.{after_length, Keys, KeyIs, Means}
 use Rattle.fractured_json_rules.specs.KeyList.{steps}
 use Rattle.fractured_json_rules.specs.KeyTable.{room_of, checked}
 use Rattle.fractured_json_rules.specs.TreeOf.{length_in, key_end, end_at, tree_of}
-use Rattle.fractured_json_rules.specs.Leads as Leads
 use Rattle.fractured_json_rules.specs.Leads.{element_place, key_place, Leads, root, StandsFor}
 use Rattle.fractured_json_rules.specs.Places.{contents_by, contents, value_node, value_nodes, field_nodes, fractured_node, Stands}
 use Rattle.fractured_json_rules.specs.Questions.{element_at, member_at, Found, value_at, absent, first_member}

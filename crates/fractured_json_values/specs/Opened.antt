@@ -4,7 +4,7 @@ use Rattle.std.specs.Prelude.{ℕ, ◌+◌, ◌^◌, ◌≤◌, ◌<◌, Bool, t
 use Rattle.json_model.specs.Bytes.{number}
 use Rattle.json_model.specs.Choose.{choose}
 use Rattle.json_model.specs.Number.{binary32, binary64, finite}
-use Rattle.json_model.specs.Reading.{Reading, Asked, answers, refuses, answer, refuse, ◌>>=◌, ◌>>◌, need}
+use Rattle.json_model.specs.Reading.{Reading, Asked, answers, refuses, answer, refuse, ◌>>=◌, need}
 use Rattle.fractured_json_rules.specs.ByteTables.{form_of}
 use Rattle.fractured_json_rules.specs.Verdict.{byte_at, payload, numeral, member}
 use Rattle.fractured_json_rules.specs.Verdict as Rules

@@ -8,9 +8,9 @@ use native.Mathlib.Omega.{arith}
 use Rattle.json_model.specs.Bytes.{Bytes, number, low_field, high_field, part, hex}
 use Rattle.json_model.specs.Choose.{choose}
 use Rattle.json_model.specs.Limits.{least_binary, least_fractured, longest, deepest, most_keys, longest_line, bench_marks, bench_keys}
-use Rattle.json_model.specs.Number.{scaled, binary32, binary64, fraction, exponent, negative, finite, significand, magnitude, float_tree, whole_tree, signed_tree}
-use Rattle.json_model.specs.Reading.{Outcome, halt, done, Reading, answer, refuse, follow, ◌>>=◌, ◌>>◌, need, kept, keep, ask, answers, refuses, kept_of, verdict_of, told}
-use Rattle.json_model.specs.Span.{Span, spanned}
+use Rattle.json_model.specs.Number.{binary32, binary64, negative, finite, magnitude, float_tree, whole_tree, signed_tree}
+use Rattle.json_model.specs.Reading.{halt, done, answer, refuse, follow, ◌>>=◌, ◌>>◌, need, kept, keep, ask, answers, refuses, kept_of, verdict_of, told}
+use Rattle.json_model.specs.Span.{spanned}
 use Rattle.json_model.specs.Texts.{by_numbers, compare_numbers, compare_texts, is_below, is_equal}
 use Rattle.json_model.specs.Tree.{Tree, null, bool, num, str, arr, obj, Trees, none, more, Members, end, member, size, sizem, depth, depths, depthm, ElementIs, MemberIs, Lacks}
 use Rattle.json_model.specs.Tree.{IsContainer, NoContainer, NoNumber, NoString, NoArray, NoObject, Subtree, whole}

@@ -1,4 +1,3 @@
-use Prim.Native.Nat.{◌+◌, ◌-◌, ◌≤◌, ◌<◌}
 use Rattle.text.proofs.Laws.{bytes_laws}
 use Rattle.text.proofs.compare_rest.Goals as goal
 

@@ -1,5 +1,3 @@
-use mathlib.Core.Path.{◌≡◌}
-use Prim.Native.Nat.{◌-◌, ◌/◌, ◌%◌, ◌≤◌}
 use Rattle.text.proofs.Laws.{eights_laws}
 use Rattle.text.proofs.pass_equal.Goals as goal
 

@@ -1,6 +1,4 @@
 -- `word::any` meets its contract. The loop's invariant: i bytes have been read.
-use mathlib.Core.Path.{◌≡◌}
-use Prim.Native.Nat.{◌-◌, ◌≤◌}
 use Rattle.word.proofs.Laws.{integer_laws}
 use Rattle.word.proofs.any.Goals as goal
 

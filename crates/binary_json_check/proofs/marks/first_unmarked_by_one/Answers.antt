@@ -1,5 +1,3 @@
-use mathlib.Core.Path.{◌≡◌}
-use Prim.Native.Nat.{◌+◌}
 use Rattle.binary_json_check.proofs.MarkLaws.{loop_laws}
 use Rattle.binary_json_check.proofs.marks.first_unmarked_by_one.Goals as goal
 

@@ -1,5 +1,3 @@
-use mathlib.Core.Path.{◌≡◌}
-use Prim.Native.Nat.{◌+◌}
 use Rattle.binary_json_check.proofs.MarkLaws.{many_laws}
 use Rattle.binary_json_check.proofs.marks.many_clear.Goals as goal
 

@@ -1,4 +1,3 @@
-use Prim.Native.Nat.{◌-◌}
 use Rattle.binary_json_check.proofs.Slots.{read_slots_laws}
 use Rattle.binary_json_check.proofs.strings.read_slots.Goals as goal
 

@@ -1,5 +1,4 @@
 use Rattle.binary_json_check.proofs.Walks.{walk_laws}
-use Prim.Native.Nat.{◌+◌, ◌*◌, ◌<◌}
 use Rattle.binary_json_check.proofs.walk.+subtree_walk_container.Goals as goal
 
 pub subtree-walk_container-requires : goal.subtree-walk_container-requires

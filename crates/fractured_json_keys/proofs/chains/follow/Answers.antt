@@ -1,6 +1,4 @@
 -- `follow`: what is found from the next link on decides.
-use mathlib.Core.Path.{◌≡◌}
-use Prim.Native.Nat.{◌^◌, ◌<◌}
 use Rattle.fractured_json_keys.proofs.ChainLaws.{follow_laws}
 use Rattle.fractured_json_keys.proofs.chains.follow.Goals as goal
 

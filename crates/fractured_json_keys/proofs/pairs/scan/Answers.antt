@@ -1,6 +1,4 @@
 -- `scan`: what is found from key j on decides.
-use mathlib.Core.Path.{◌≡◌}
-use Prim.Native.Nat.{◌+◌, ◌/◌, ◌≤◌}
 use Rattle.fractured_json_keys.proofs.MetBefore.{met_laws}
 use Rattle.fractured_json_keys.proofs.pairs.scan.Goals as goal
 

@@ -1,6 +1,4 @@
 -- `find_name`: what the names say from name j on is what they say from the first one on.
-use mathlib.Core.Path.{◌≡◌}
-use Prim.Native.Nat.{◌+◌, ◌-◌, ◌*◌, ◌≤◌}
 use Rattle.fractured_json_list.proofs.FindLaws.{find_laws}
 use Rattle.fractured_json_list.proofs.names.find_name.Goals as goal
 

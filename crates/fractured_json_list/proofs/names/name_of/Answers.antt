@@ -1,6 +1,4 @@
 -- `name_of`: the steps from here on lead where those from 3 on lead.
-use mathlib.Core.Path.{◌≡◌}
-use Prim.Native.Nat.{◌+◌, ◌*◌, ◌≤◌}
 use Rattle.fractured_json_list.proofs.NameLaws.{name_laws}
 use Rattle.fractured_json_list.proofs.names.name_of.Goals as goal
 

@@ -1,6 +1,4 @@
 -- `pass_names`: what the names say from name j on is what they say from the first one on.
-use mathlib.Core.Path.{◌≡◌}
-use Prim.Native.Nat.{◌-◌, ◌≤◌}
 use Rattle.fractured_json_list.proofs.PassLaws.{names_laws}
 use Rattle.fractured_json_list.proofs.walk.pass_names.Goals as goal
 

@@ -1,6 +1,4 @@
 -- `hash_of`: what the hash is from here on is the hash of the text.
-use mathlib.Core.Path.{◌≡◌}
-use Prim.Native.Nat.{◌+◌, ◌*◌, ◌^◌, ◌≤◌, ◌<◌}
 use Rattle.text.proofs.Hashing.{hash_laws}
 use Rattle.text.proofs.hash.hash_of.Goals as goal
 
