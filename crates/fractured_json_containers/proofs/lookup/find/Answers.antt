@@ -1,5 +1,4 @@
 -- `find`: what the members say from here on is what they say from the first on.
-use mathlib.Core.Path.{◌≡◌}
 use Rattle.fractured_json_containers.proofs.LookupLaws.{find_laws}
 use Rattle.fractured_json_containers.proofs.lookup.find.Goals as goal
 

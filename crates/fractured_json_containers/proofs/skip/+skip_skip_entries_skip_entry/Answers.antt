@@ -1,6 +1,4 @@
 -- The questions' walk. Each call falls by levels left; in the loop, what the entries say from here on is what they say from the first on.
-use mathlib.Core.Path.{◌≡◌}
-use Prim.Native.Nat.{◌+◌, ◌*◌, ◌<◌}
 use Rattle.fractured_json_containers.proofs.AskedWalk.{skip_laws, entries_laws, entry_laws}
 use Rattle.fractured_json_containers.proofs.skip.+skip_skip_entries_skip_entry.Goals as goal
 
