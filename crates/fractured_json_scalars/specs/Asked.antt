@@ -2,7 +2,7 @@
 -- tables say. proofs/ shows that each is the rules'.
 use Rattle.std.specs.Prelude.{true, ℕ, ◌+◌, ◌<◌, List, ◌≡◌, ltb, eqb, length}
 use Rattle.json_model.specs.Choose.{choose}
-use Rattle.json_model.specs.Reading.{Reading, ask, answers, refuses, answer, refuse, ◌>>=◌, ◌>>◌, need}
+use Rattle.json_model.specs.Reading.{Reading, ask, answers, refuses, answer, refuse, ◌>>=◌, need}
 use Rattle.fractured_json_rules.specs.ByteTables.{form_of}
 use Rattle.fractured_json_rules.specs.Verdict.{Numeral, byte_at}
 use Rattle.fractured_json_rules.specs.Questions.{Kind, is_null, is_false, is_true, is_number, is_string, is_object, is_array, Bits, extended, tiny_bits}
