@@ -1,6 +1,4 @@
 -- The check's walk. Each call falls by levels left; in the loop, what the entries say from here on is what they say from the first on.
-use mathlib.Core.Path.{◌≡◌}
-use Prim.Native.Nat.{◌+◌, ◌*◌, ◌<◌}
 use Rattle.fractured_json_check.proofs.CheckWalk.{contents_laws, entry_laws, value_laws}
 use Rattle.fractured_json_check.proofs.walk.+contents_entry_value.Goals as goal
 
