@@ -18,7 +18,7 @@ use Rattle.json_model.specs.declared.Order.TheVariants.{Below, Equal, Above}
 use Rattle.json_model.specs.declared.Refusal.{Refusal}
 use Rattle.json_model.proofs.Reading.{then, stops}
 use Rattle.json_model.proofs.Texts.{numbers_below, numbers_equal, numbers_above}
-use Rattle.binary_json_rules.specs.Areas.{word, count, slot}
+use Rattle.binary_json_rules.specs.Areas.{word, slot}
 use Rattle.binary_json_rules.specs.Meaning.{SlotIs}
 use Rattle.binary_json_rules.specs.TreeOf.{slot_at}
 use Rattle.binary_json_rules.specs.Questions.{slot_read, text_named, entry_of}

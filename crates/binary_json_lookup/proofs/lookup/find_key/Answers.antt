@@ -1,4 +1,3 @@
-use Prim.Native.Nat.{◌-◌}
 use Rattle.binary_json_lookup.proofs.Searches.{keys_laws}
 use Rattle.binary_json_lookup.proofs.lookup.find_key.Goals as goal
 

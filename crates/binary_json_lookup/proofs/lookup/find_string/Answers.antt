@@ -1,4 +1,3 @@
-use Prim.Native.Nat.{◌-◌}
 use Rattle.binary_json_lookup.proofs.Searches.{strings_laws}
 use Rattle.binary_json_lookup.proofs.lookup.find_string.Goals as goal
 

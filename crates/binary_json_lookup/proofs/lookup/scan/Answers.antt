@@ -1,4 +1,3 @@
-use Prim.Native.Nat.{◌-◌}
 use Rattle.binary_json_lookup.proofs.Searches.{scan_laws}
 use Rattle.binary_json_lookup.proofs.lookup.scan.Goals as goal
 

@@ -1,6 +1,4 @@
 use Rattle.frame.proofs.Hexadecimal.{decode_laws}
-use mathlib.Core.Path.{◌≡◌}
-use Prim.Native.Nat.{◌*◌, ◌/◌, ◌-◌, ◌≤◌}
 use Rattle.frame.proofs.hex.decode.Goals as goal
 
 pub returns-then-high-gt15-clause-decoded : goal.returns-then-high-gt15-clause-decoded

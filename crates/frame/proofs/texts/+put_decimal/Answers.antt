@@ -1,5 +1,4 @@
 use Rattle.frame.proofs.TextLaws.{decimal_laws}
-use Prim.Native.Nat.{◌<◌}
 use Rattle.frame.proofs.texts.+put_decimal.Goals as goal
 
 pub returns-then-n-lt10-clause-written : goal.returns-then-n-lt10-clause-written

@@ -1,6 +1,4 @@
 use Rattle.frame.proofs.TextLaws.{put_laws}
-use mathlib.Core.Path.{◌≡◌}
-use Prim.Native.Nat.{◌-◌, ◌≤◌}
 use Rattle.frame.proofs.texts.put.Goals as goal
 
 pub loop-i-preserved : goal.loop-i-preserved
