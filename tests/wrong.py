@@ -3,15 +3,18 @@
 
 SAID is a file with what `rt ci` or `rt must-fail` printed of the must-fail edits under ROOT/crates: a line for each,
 with the first error of the prover. Where that line does not decide, `rt check` says all, in copies of the crates with
-the edit made, over the work that earlier checks on this machine kept. A proof can also fail because it no longer fits
-what was edited, and that shows nothing: an error under src/ or specs/, an error at an invariant or a measure
+the edit made, over the work that earlier checks on this machine kept; and where an edit has several wrong programs
+and one of them shows nothing, in a copy with that one alone. A proof can also fail because it no longer fits what was
+edited, and that shows nothing: an error under src/ or specs/, an error at an invariant or a measure
 (proofs/F/Invariants.antt), a name that is not there, a form that does not parse, a wrong number of arguments.
 
 An edit of src/ holds one wrong program or more, in different functions, each named by a line `wrong: NAME in
-FUNCTION` above its replacements: of each of these functions a fact must fail, in its proof files or, where it has
-none, at a goal that the tactics alone do not prove, and its proof files must fit. An edit of specs/ is one wrong
-definition, named by its file: a computed row must fail (an item of proofs/Examples.antt or proofs/ByteTables.antt
-whose proof is `refl`, or `refl` for each of its parts) or, where the edit has a line `theorem: NAME`, that item.
+FUNCTION` above its replacements: of each of these functions a fact must fail, at an answer of its proof files or at a
+goal that the tactics alone do not prove, and its proof files must fit. Only answers to goals that are gone show
+neither, since most goals have the name of a condition, which an edit may change: as many open goals are theirs. An
+edit of specs/ is one wrong definition, named by its file: a computed row must fail (an item of proofs/Examples.antt
+or proofs/ByteTables.antt whose proof is `refl`, or `refl` for each of its parts) or, where the edit has a line
+`theorem: NAME`, that item.
 
 Exit status: 0 every wrong program is refused for a fact; 1 some are not; 2 an edit is malformed, or SAID has no line
 of it.
@@ -22,6 +25,9 @@ ROWS = ("proofs/Examples.antt", "proofs/ByteTables.antt")
 # an error of a log, or the one of an edit's line: the file below the crate, the item, the message
 ERROR = re.compile(r"(?:^|: )(?:\./)?((?:src|specs|proofs)/\S+?):\d+:\d+: error(?:\[[^\]]*\])?: "
                    r"(?:`([^`]+)`: )?(.*)$", re.M)
+NOTHING = "no fact fails"
+# an answer to a goal that is gone: most goals have the name of a condition, and an edit changes some
+GONE = re.compile(r"`goal\.[^`]*`: module `[^`]*\.Goals` has no `")
 # what follows from an error that stands elsewhere
 FOLLOWS = re.compile(r"which was (?:rejected|not admitted)|was not admitted|cannot be unfolded because")
 # the proof does not fit what was edited; what stands in backquotes is left out
@@ -37,7 +43,7 @@ def stop(why):
 
 def read_edit(file):
     """The folder that an edit changes (src or specs), its wrong programs as (name, function), the theorem it names, and
-    what it replaces as (file, old, new)."""
+    what it replaces as (name of the program, file, old, new)."""
     folders, programs, theorem, pending, path, old, pairs = set(), [], None, False, None, None, []
     for number, line in enumerate(file.read_text(encoding="utf-8").split("\n"), 1):
         wrong = re.fullmatch(r"wrong: (\S+) in (\S+)", line)
@@ -54,7 +60,7 @@ def read_edit(file):
         elif line.startswith("old: "):
             old = line[5:]
         elif re.match(r"new:( |$)", line):
-            pairs.append((path, old, line[5:]))
+            pairs.append((programs[-1][0] if programs else None, path, old, line[5:]))
         elif line:
             stop(f"{file}:{number}: no line of an edit: {line}")
     if len(folders) != 1 or pending:
@@ -101,19 +107,33 @@ def program(log, errors, function):
         return "the edited code does not stand"
     where = rf"proofs/(\+\w+/)?{re.escape(function.replace('::', '/'))}/\w+\.antt"
     here = [e for e in errors if re.fullmatch(where, e[0])]
-    misfits = [f"{e[0].rpartition('/')[2]}: `{e[1]}`: {e[2][:80]}" for e in here if not fits(e)]
+    gone = [e for e in here if GONE.match(e[2])]
+    misfits = [f"{e[0].rpartition('/')[2]}: `{e[1]}`: {e[2][:80]}" for e in here if e not in gone and not fits(e)]
     if misfits:
         return "the proof does not fit the edited code: " + "; ".join(misfits[:2])
-    open_goal = re.search(rf"^fn \w+::{re.escape(function)}: no proof: .* did not prove `", log, re.M)
-    return None if here or open_goal else "no fact fails"
+    if any(fits(e) for e in here) or len(open_goals(log, function)) > len(gone):
+        return None
+    return f"only goals that have another name now are open: {', '.join(e[1] for e in gone)}" if gone else NOTHING
+
+
+def open_goals(log, function):
+    """The goals of a function that neither an answer nor the tactics alone prove, as the log has them above its line."""
+    goals = []
+    for line in log.split("\n"):
+        goal = re.match(r"note: \S+: it is not proved that .*\(`([^`]+)`\)", line)
+        told = re.match(r"fn \w+::(\S+): ", line)
+        if told and told[1] == function:
+            return goals
+        goals = goals + [goal[1]] if goal else [] if told else goals
+    return []
 
 
 def check(copy, crate, pairs):
     """What `rt check` says in a copy of the repository whose crate has these replacements."""
     where = copy / "crates" / crate
-    texts = {path: (where / path).read_text(encoding="utf-8") for path, _, _ in pairs}
+    texts = {path: (where / path).read_text(encoding="utf-8") for _, path, _, _ in pairs}
     edited = dict(texts)
-    for path, old, new in pairs:
+    for _, path, old, new in pairs:
         edited[path] = edited[path].replace(old, new)
     try:
         for path, text in edited.items():
@@ -133,17 +153,25 @@ def judge(edit, line, free):
         what = "definition" if folder == "specs" else "code"
         return [(*it, f"the edited {what} does not stand: {line}") for it in whole]
     if "refused, as it must be" not in line:
-        lacks = program("", [], "") if folder == "src" else definition(crate, [], theorem)
+        lacks = NOTHING if folder == "src" else definition(crate, [], theorem)
         return [(*it, f"{lacks}: {line}") for it in whole]
     if folder == "specs" and definition(crate, errors_of(line), theorem) is None:
         return [(*whole[0], None)]
     copy = free.get()
     try:
         log = check(copy, crate.name, pairs)
+        if folder == "specs":
+            return [(*whole[0], definition(crate, errors_of(log), theorem))]
+        told = []
+        for name, function in programs:
+            why = program(log, errors_of(log), function)
+            if why == NOTHING and len(programs) > 1:                # goals may wait for those of another wrong program
+                alone = check(copy, crate.name, [it for it in pairs if it[0] == name])
+                why = program(alone, errors_of(alone), function)
+            told.append((name, function, why))
+        return told
     finally:
         free.put(copy)
-    errors = errors_of(log)
-    return [(name, f, program(log, errors, f) if f else definition(crate, errors, theorem)) for name, f in whole]
 
 
 def main():
