@@ -56,6 +56,7 @@ pub(crate) fn put_hex(out: &mut [u8], n: usize, t: &[u8]) -> usize {
 }
 
 // A number in decimal digits, the highest first.
+#[tactic(auto, using(std::proofs::lemmas::Fmt::decimal_digit))]
 fn put_decimal(out: &mut [u8], n: usize, x: usize) -> usize
     ensures { Puts out.old n (decimal x) out.new result }
 {

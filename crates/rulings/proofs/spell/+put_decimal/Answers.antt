@@ -1,10 +1,7 @@
-use Rattle.std.proofs.Common.{◌≡◌, ◌<◌, length, arith}
-use Rattle.std.proofs.lemmas.Fmt.{decimal_digit, decimal_step}
+use Rattle.std.proofs.Common.{◌≡◌, length, arith}
+use Rattle.std.proofs.lemmas.Fmt.{decimal_step}
 use Rattle.rulings.proofs.Puts.{puts_then}
 use Rattle.rulings.proofs.spell.+put_decimal.Goals as goal
-
-pub returns-then-x-lt10 : goal.returns-then-x-lt10
-returns-then-x-lt10 k c = let small : c.args.x < 10 = omega arith in rw decimal_digit c.put.ensures
 
 pub returns : goal.returns
 returns k c =
