@@ -1,9 +1,9 @@
 #!/usr/bin/env bash
 # Tests of crates/claims. First: it makes every public call of the readers, of `text` and of `frame`, and asks nothing
-# of its callers. Then: a call whose contract says less breaks a claim. Each tests/weaken/NAME.code is a call of a reader
-# with a weaker contract, which takes the place of the reader's own in a copy of the repository; the file's first lines
-# name the call, and each function of claims that it must break, with the goal that must stay open there. The readers
-# must be proved in the copy, and claims but for those functions.
+# of its callers. Then: a call whose contract says less breaks a claim. Each tests/weaken/NAME.code is a call of a
+# reader with a weaker contract, which takes the place of the reader's own in a copy of the repository; the file's first
+# lines name the call, and each function of claims that it must break, with the goal that must stay open there. The
+# readers must be proved in the copy, and claims but for those functions.
 set -euo pipefail
 cd "$(dirname "$0")/.."
 
