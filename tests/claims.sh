@@ -1,10 +1,9 @@
 #!/usr/bin/env bash
-# Tests of crates/claims. First: it makes every public call of the readers, of `text` and of `frame`, and asks nothing of
-# its callers. Then: a call whose contract says less breaks a claim. Each tests/weaken/NAME.code is a call of a reader
-# with a weaker contract (NAME.proof its Answers.antt, where the tactics alone do not prove it), which takes the place of
-# the reader's own in a copy of the repository; the file's first lines name the call, and each function of claims that it
-# must break, with the fact that must fail there. The readers must be proved in the copy, and claims but for those
-# functions.
+# Tests of crates/claims. First: it makes every public call of the readers, of `text` and of `frame`, and asks nothing
+# of its callers. Then: a call whose contract says less breaks a claim. Each tests/weaken/NAME.code is a call of a
+# reader with a weaker contract, which takes the place of the reader's own in a copy of the repository; the file's first
+# lines name the call, and each function of claims that it must break, with the goal that must stay open there. The
+# readers must be proved in the copy, and claims but for those functions.
 set -euo pipefail
 cd "$(dirname "$0")/.."
 
@@ -41,27 +40,27 @@ for part in crates/*/{src,specs,proofs}; do
     if [ -d "$part" ]; then mkdir -p "$copy/${part%/*}" && cp -r "$part" "$copy/${part%/*}"; fi
 done
 
+# exchange LIB MODULE CALL: the call leaves the file's own `pub use`, and comes from a module beside it
+exchange() {
+    python3 - "$@" <<'END'
+import re, sys
+lib, module, call = sys.argv[1:]
+text = open(lib, encoding="utf-8").read()
+text, of_group = re.subn(rf"(pub use [^;]*[{{ ]){call}(, *\n? *|(?=\n?}}))", r"\1", text)
+text, alone = re.subn(rf"pub use [^;{{]*::{call};\n", "", text)
+text = re.sub(r"(?m)^(?=pub use )", f"mod {module};\npub use {module}::{call};\n", text, count=1)
+open(lib, "w", encoding="utf-8").write(text)
+sys.exit(of_group + alone != 1)
+END
+}
+
 weak=0
 for file in tests/weaken/*.code; do
     name=$(basename "$file" .code) call=$(sed -n 's|^// weakens: ||p' "$file")
     reader=${call%::*} own=${call#*::}
     grep -q '^// breaks: ' "$file" || fail "$file: breaks nothing"
     cp "$file" "$copy/crates/$reader/src/$name.rt"
-    # the name leaves the reader's own `pub use`
-    python3 - "$copy/crates/$reader/src/lib.rt" "$name" "$own" <<'END_OF_PYTHON' || fail "$file: $reader has no one line that names $own"
-import re, sys
-path, name, own = sys.argv[1:]
-text = open(path, encoding="utf-8").read()
-text, of_group = re.subn(rf"(pub use [^;]*[{{ ]){own}(, *\n? *|(?=\n?}}))", r"\1", text)
-text, alone = re.subn(rf"pub use [^;{{]*::{own};\n", "", text)
-text = re.sub(r"(?m)^(?=pub use )", f"mod {name};\npub use {name}::{own};\n", text, count=1)
-open(path, "w", encoding="utf-8").write(text)
-sys.exit(of_group + alone != 1)
-END_OF_PYTHON
-    if [ -f "tests/weaken/$name.proof" ]; then
-        mkdir -p "$copy/crates/$reader/proofs/$name/$own"
-        cp "tests/weaken/$name.proof" "$copy/crates/$reader/proofs/$name/$own/Answers.antt"
-    fi
+    exchange "$copy/crates/$reader/src/lib.rt" "$name" "$own" || fail "$file: $reader has no one line that names $own"
     weak=$((weak + 1))
 done
 
@@ -74,7 +73,7 @@ broken=$(sed -n 's|^// breaks: \(.*\) at .*|\1|p' tests/weaken/*.code | sort -u)
 failed=$(sed -nE 's/^fn claims::([a-z_]*): (no proof|not proved).*/\1/p' "$copy/log" | sort -u)
 [ "$broken" = "$failed" ] || fail "not proved are: ${failed//$'\n'/ }; expected: ${broken//$'\n'/ }"
 while read -r function goal; do
-    grep -Eq "/$function/Answers.antt:.*: error: \`$goal|^fn claims::$function: no proof: .* did not prove .*\`$goal" "$copy/log" ||
-        fail "$function does not fail at $goal"
+    open="/$function/Answers.antt:.*: error: \`$goal|^fn claims::$function: no proof: .* did not prove .*\`$goal"
+    grep -Eq "$open" "$copy/log" || fail "$function does not fail at $goal"
 done < <(sed -n 's|^// breaks: \(.*\) at \(.*\)$|\1 \2|p' tests/weaken/*.code)
 echo "claims: $weak weaker contracts break a claim"

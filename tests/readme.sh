@@ -1,6 +1,6 @@
 #!/usr/bin/env bash
-# Runs the README as it is written: the bench on its lines, and the C and the Rust lines of its tour. What each writes must
-# be what the README says.
+# Runs the README as it is written: the bench on its lines, and the C and the Rust lines of its tour. What each writes
+# must be what the README says.
 set -euo pipefail
 cd "$(dirname "$0")/.."
 work=$(mktemp -d)
@@ -54,7 +54,8 @@ END
     block Tour 3
     echo 'Ok(()) }'
 } >"$work/tour-in-rust/src/main.rs"
-CARGO_TARGET_DIR=rust/target cargo run --quiet --release --offline --manifest-path "$work/tour-in-rust/Cargo.toml" >"$work/out"
+CARGO_TARGET_DIR=rust/target cargo run --quiet --release --offline --manifest-path "$work/tour-in-rust/Cargo.toml" \
+    >"$work/out"
 same 'the tour in Rust' Tour 4
 
 echo "README: $cases examples write what it says"

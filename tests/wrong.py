@@ -117,7 +117,7 @@ def program(log, errors, function):
 
 
 def open_goals(log, function):
-    """The goals of a function that neither an answer nor the tactics alone prove, as the log has them above its line."""
+    """The goals of a function that neither an answer nor the tactics prove, as the log has them above its line."""
     goals = []
     for line in log.split("\n"):
         goal = re.match(r"note: \S+: it is not proved that .*\(`([^`]+)`\)", line)

@@ -1,9 +1,9 @@
 #!/usr/bin/env bash
 # wrong.sh [SAID]: each wrong program must be refused for a fact. tests/wrong.py reads what `rt ci` printed of the
-# must-fail edits, in the file SAID (with no SAID: what `rt must-fail` prints now), and checks those of which a line does
-# not tell it. First its own tests, on copies of `json_model` and `word`: an edit that misspells a name, one that renames
-# a local that an invariant names, one that adds a local, and one that means the same show nothing; a wrong fact is told
-# as one; and a malformed line is an error.
+# must-fail edits, in the file SAID (with no SAID: what `rt must-fail` prints now), and checks those of which a line
+# does not tell it. First its own tests, on copies of `json_model` and `word`: an edit that misspells a name, one that
+# renames a local that an invariant names, one that adds a local, and one that means the same show nothing; a wrong fact
+# is told as one; and a malformed line is an error.
 set -euo pipefail
 said=$(realpath -- "${1:-/dev/null}")
 cd "$(dirname "$0")/.."
