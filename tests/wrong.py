@@ -123,7 +123,7 @@ def at_answers(errors, function):
 
 
 def answers_to(crate, log, function):
-    """A replacement that gives the answers of a function whose goals are gone to those that are open, in their order."""
+    """A replacement that gives a function's answers whose goals are gone to the goals that are open, in their order."""
     gone, goals = at_answers(errors_of(log), function)[1], open_goals(log, function)
     if not gone or len(gone) != len(goals):
         return []
