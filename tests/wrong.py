@@ -11,10 +11,10 @@ edited, and that shows nothing: an error under src/ or specs/, an error at an in
 An edit of src/ holds one wrong program or more, in different functions, each named by a line `wrong: NAME in
 FUNCTION` above its replacements: of each of these functions a fact must fail, at an answer of its proof files or at a
 goal that the tactics alone do not prove, and its proof files must fit. Only answers to goals that are gone show
-neither, since most goals have the name of a condition, which an edit may change: as many open goals are theirs. An
-edit of specs/ is one wrong definition, named by its file: a computed row must fail (an item of proofs/Examples.antt
-or proofs/ByteTables.antt whose proof is `refl`, or `refl` for each of its parts) or, where the edit has a line
-`theorem: NAME`, that item.
+neither, since most goals have the name of a condition, which an edit may change: where no more goals are open, the
+answers are given to these. An edit of specs/ is one wrong definition, named by its file: a computed row must fail (an
+item of proofs/Examples.antt or proofs/ByteTables.antt whose proof is `refl`, or `refl` for each of its parts) or,
+where the edit has a line `theorem: NAME`, that item.
 
 Exit status: 0 every wrong program is refused for a fact; 1 some are not; 2 an edit is malformed, or SAID has no line
 of it.
@@ -26,6 +26,7 @@ ROWS = ("proofs/Examples.antt", "proofs/ByteTables.antt")
 ERROR = re.compile(r"(?:^|: )(?:\./)?((?:src|specs|proofs)/\S+?):\d+:\d+: error(?:\[[^\]]*\])?: "
                    r"(?:`([^`]+)`: )?(.*)$", re.M)
 NOTHING = "no fact fails"
+RENAMED = "only goals that have another name now are open"
 # an answer to a goal that is gone: most goals have the name of a condition, and an edit changes some
 GONE = re.compile(r"`goal\.[^`]*`: module `[^`]*\.Goals` has no `")
 # what follows from an error that stands elsewhere
@@ -105,15 +106,31 @@ def program(log, errors, function):
     """Why a wrong program in a function is not refused for a fact, or nothing."""
     if any(not file.startswith("proofs/") for file, _, _ in errors):
         return "the edited code does not stand"
-    where = rf"proofs/(\+\w+/)?{re.escape(function.replace('::', '/'))}/\w+\.antt"
-    here = [e for e in errors if re.fullmatch(where, e[0])]
-    gone = [e for e in here if GONE.match(e[2])]
+    here, gone = at_answers(errors, function)
     misfits = [f"{e[0].rpartition('/')[2]}: `{e[1]}`: {e[2][:80]}" for e in here if e not in gone and not fits(e)]
     if misfits:
         return "the proof does not fit the edited code: " + "; ".join(misfits[:2])
     if any(fits(e) for e in here) or len(open_goals(log, function)) > len(gone):
         return None
-    return f"only goals that have another name now are open: {', '.join(e[1] for e in gone)}" if gone else NOTHING
+    return f"{RENAMED}: {', '.join(e[1] for e in gone)}" if gone else NOTHING
+
+
+def at_answers(errors, function):
+    """The errors at the proof files of a function, and those of them that say that a goal is gone."""
+    where = rf"proofs/(\+\w+/)?{re.escape(function.replace('::', '/'))}/\w+\.antt"
+    here = [e for e in errors if re.fullmatch(where, e[0])]
+    return here, [e for e in here if GONE.match(e[2])]
+
+
+def answers_to(crate, log, function):
+    """A replacement that gives a function's answers whose goals are gone to the goals that are open, in their order."""
+    gone, goals = at_answers(errors_of(log), function)[1], open_goals(log, function)
+    if not gone or len(gone) != len(goals):
+        return []
+    old = new = (crate / gone[0][0]).read_text(encoding="utf-8")
+    for error, goal in zip(gone, goals):
+        new = re.sub(rf"(?<![\w-]){re.escape(error[1])}(?![\w-])", goal, new)
+    return [(None, gone[0][0], old, new)]
 
 
 def open_goals(log, function):
@@ -165,9 +182,13 @@ def judge(edit, line, free):
         told = []
         for name, function in programs:
             why = program(log, errors_of(log), function)
+            own, said = [it for it in pairs if it[0] == name], log
             if why == NOTHING and len(programs) > 1:                # goals may wait for those of another wrong program
-                alone = check(copy, crate.name, [it for it in pairs if it[0] == name])
-                why = program(alone, errors_of(alone), function)
+                said = check(copy, crate.name, own)
+                why = program(said, errors_of(said), function)
+            if why and why.startswith(RENAMED) and answers_to(crate, said, function):
+                said = check(copy, crate.name, own + answers_to(crate, said, function))
+                why = program(said, errors_of(said), function)
             told.append((name, function, why))
         return told
     finally:
