@@ -262,7 +262,9 @@ too_long doc marks h =
 -- a question that opens the document at its cursor: 11 bytes are 1 at 11, before the cursor word is looked at, and areas
 -- that are not in order 20 at the cursor
 abbrev Opens : {A : Type 0} → (List ℕ → ℕ → Reading (Unit {0}) A) → List ℕ → ℕ → Type 0
-Opens question doc c = (ask (question (hex 11 0x0101000000000000000000) 0) ≡ refuses 1 11) × (ask (question doc c) ≡ refuses 20 c)
+Opens question doc c =
+    (ask (question (hex 11 0x0101000000000000000000) 4) ≡ refuses 1 11) × (ask (question (hex 11 0x0101000000000000000000) 0) ≡ refuses 1 11)
+    × (ask (question doc c) ≡ refuses 20 c)
 
 -- [null], whose texts end before its slots do: a word of the tree stands at 8, which each question but a slot's would
 -- read
@@ -275,7 +277,18 @@ pub openings_say :
     × Opens entry_type early 8 × Opens container_at early 8 × Opens string_at early 8 × Opens number_at early 8 × Opens (λ doc c. quick_lookup doc c []) early 8
     × Opens (λ doc c. plain_scan doc c []) early 8
 unfolding need ◌>>=◌ follow number index count slot text numbers header opening kind_and_size element member_at slot_text entry_type container_at string_at number_at quick_lookup plain_scan
-openings_say = ((refl, refl), (refl, refl), (refl, refl), (refl, refl), (refl, refl), (refl, refl), (refl, refl), (refl, refl), (refl, refl), (refl, refl))
+openings_say = (
+  (refl, refl, refl),
+  (refl, refl, refl),
+  (refl, refl, refl),
+  (refl, refl, refl),
+  (refl, refl, refl),
+  (refl, refl, refl),
+  (refl, refl, refl),
+  (refl, refl, refl),
+  (refl, refl, refl),
+  (refl, refl, refl),
+)
 
 pub questions_say :
     -- 1 to 4 keep their places; then 20 at the cursor unless S+4+4C ≤ N ≤ length

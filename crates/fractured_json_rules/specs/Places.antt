@@ -1,4 +1,4 @@
--- The tree of a Fractured JSON document with its places (json's Node.antt; docs/format/FRACTURED_JSON.md, section 10):
+-- The tree of a Fractured JSON document with its places (json_model's Node.antt; docs/format/FRACTURED_JSON.md, section 10):
 -- a value stands at its type byte, a member's key at its key byte. It is the tree of TreeOf.antt with places laid over
 -- it, which are read off the bytes. It is meant for accepted documents; of any other it says nothing.
 use Rattle.std.specs.Prelude.{ℕ, List, get_or}

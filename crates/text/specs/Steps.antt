@@ -1,5 +1,5 @@
 -- The steps in which two texts are compared, on two lists of bytes: docs/format/BINARY_JSON.md, section 12. Their order
--- is `compare_texts` (json/specs/Texts.antt).
+-- is `compare_texts` (json_model/specs/Texts.antt).
 use Rattle.std.specs.Prelude.{ℕ, zero, suc, min, Bool, List, leb, length, take, drop}
 use Rattle.json_model.specs.Choose.{choose}
 use Rattle.json_model.specs.Texts.{compare_texts, is_equal}
