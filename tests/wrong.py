@@ -102,29 +102,49 @@ def definition(crate, errors, theorem):
     return f"`{theorem}` does not fail" if theorem else "no computed row fails"
 
 
-def program(log, errors, function):
+def program(crate, log, errors, function):
     """Why a wrong program in a function is not refused for a fact, or nothing."""
     if any(not file.startswith("proofs/") for file, _, _ in errors):
         return "the edited code does not stand"
-    here, gone = at_answers(errors, function)
+    here, gone = at_answers(crate, errors, function)
     misfits = [f"{e[0].rpartition('/')[2]}: `{e[1]}`: {e[2][:80]}" for e in here if e not in gone and not fits(e)]
     if misfits:
         return "the proof does not fit the edited code: " + "; ".join(misfits[:2])
-    if any(fits(e) for e in here) or len(open_goals(log, function)) > len(gone):
+    if any(fits(e) for e in here) or len(open_goals(crate, log, function)) > len(gone):
         return None
     return f"{RENAMED}: {', '.join(e[1] for e in gone)}" if gone else NOTHING
 
 
-def at_answers(errors, function):
-    """The errors at the proof files of a function, and those of them that say that a goal is gone."""
-    where = rf"proofs/(\+\w+/)?{re.escape(function.replace('::', '/'))}/\w+\.antt"
-    here = [e for e in errors if re.fullmatch(where, e[0])]
+def cycles_of(crate, function):
+    """The cycles of calls that a function of that name is in, and the other functions of these: #[cycle(..)] says."""
+    own = function.rpartition("::")[2]
+    source = "\n".join(it.read_text(encoding="utf-8") for it in sorted(crate.glob("src/**/*.rt")))
+    marked = re.findall(r"#\[cycle\((\w+)\)\]\s+(?:#\[.*\]\s+)*(?:[\w()]+ )*fn (\w+)", source)
+    cycles = {cycle for cycle, name in marked if name == own}
+    return cycles, {name for cycle, name in marked if cycle in cycles and name != own}
+
+
+def at_answers(crate, errors, function):
+    """The errors at the proof files of a function, and those of them that say that a goal is gone. A function that
+    calls itself has the folder `+F`, and a cycle of calls has one, `+CYCLE`, in that of the module or the type: there
+    an answer is named for its function, and a misfit is one for each of them, since they are proved as one."""
+    *above, own = function.split("::")
+    beside = "|".join("".join(f"{part}/" for part in above[:n]) for n in range(len(above) + 1))
+    cycles, others = cycles_of(crate, function)
+    files = rf"proofs/(?:{'/'.join(above + [own])}|(?:{beside})\+(?:{'|'.join([own, *sorted(cycles)])}))/\w+\.antt"
+    here = [e for e in errors if re.fullmatch(files, e[0])]
+    here = [e for e in here if not is_of(e[1], others) or not GONE.match(e[2]) and not fits(e)]
     return here, [e for e in here if GONE.match(e[2])]
+
+
+def is_of(item, functions):
+    """Whether an answer or a goal of a cycle is that of one of these functions."""
+    return any(item.startswith(f"{name}-") for name in functions)
 
 
 def answers_to(crate, log, function):
     """A replacement that gives a function's answers whose goals are gone to the goals that are open, in their order."""
-    gone, goals = at_answers(errors_of(log), function)[1], open_goals(log, function)
+    gone, goals = at_answers(crate, errors_of(log), function)[1], open_goals(crate, log, function)
     if not gone or len(gone) != len(goals):
         return []
     old = new = (crate / gone[0][0]).read_text(encoding="utf-8")
@@ -133,14 +153,15 @@ def answers_to(crate, log, function):
     return [(None, gone[0][0], old, new)]
 
 
-def open_goals(log, function):
-    """The goals of a function that neither an answer nor the tactics prove, as the log has them above its line."""
-    goals = []
+def open_goals(crate, log, function):
+    """The goals of a function that neither an answer nor the tactics prove, as the log has them above its line. Above
+    that of each function of a cycle stand those of all."""
+    goals, others = [], cycles_of(crate, function)[1]
     for line in log.split("\n"):
         goal = re.match(r"note: \S+: it is not proved that .*\(`([^`]+)`\)", line)
         told = re.match(r"fn \w+::(\S+): ", line)
         if told and told[1] == function:
-            return goals
+            return [it for it in goals if not is_of(it, others)]
         goals = goals + [goal[1]] if goal else [] if told else goals
     return []
 
@@ -181,14 +202,14 @@ def judge(edit, line, free):
             return [(*whole[0], definition(crate, errors_of(log), theorem))]
         told = []
         for name, function in programs:
-            why = program(log, errors_of(log), function)
+            why = program(crate, log, errors_of(log), function)
             own, said = [it for it in pairs if it[0] == name], log
             if why == NOTHING and len(programs) > 1:                # goals may wait for those of another wrong program
                 said = check(copy, crate.name, own)
-                why = program(said, errors_of(said), function)
+                why = program(crate, said, errors_of(said), function)
             if why and why.startswith(RENAMED) and answers_to(crate, said, function):
                 said = check(copy, crate.name, own + answers_to(crate, said, function))
-                why = program(said, errors_of(said), function)
+                why = program(crate, said, errors_of(said), function)
             told.append((name, function, why))
         return told
     finally:

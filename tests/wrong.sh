@@ -28,8 +28,8 @@ new: low_field k w = w % 2 ^ bits
 END
 edit json_model means_the_same <<'END'
 file: specs/Texts.antt
-old: by_numbers x y equal = choose (ltb x y) Below (choose (ltb y x) Above equal)
-new: by_numbers x y equal = choose (ltb y x) Above (choose (ltb x y) Below equal)
+old: by_numbers x y equal = choose (ltb x y) Less (choose (ltb y x) Greater equal)
+new: by_numbers x y equal = choose (ltb y x) Greater (choose (ltb x y) Less equal)
 END
 edit json_model field_above <<'END'
 file: specs/Bytes.antt
@@ -55,20 +55,16 @@ old: low: (w & mask) as usize,
 new: low: { let m = mask; (w & m) as usize },
 wrong: local_added_before_a_loop in any
 file: src/lib.rt
-old: let mut value: u64 = 0;
-new: let nothing: u64 = 0; let mut value: u64 = nothing;
+old: let mut value = 0;
+new: let nothing = 0; let mut value = nothing;
 END
 edit word local_renamed <<'END'
 wrong: local_renamed in any
 file: src/lib.rt
-old: let mut i = 0;
-new: let mut k = 0;
-old: while i < n {
-new: while k < n {
-old: value = more(s, at, i, value);
-new: value = more(s, at, k, value);
-old: i += 1;
-new: k += 1;
+old: for (k, x) in s[at..at + n].iter().enumerate() {
+new: for (j, x) in s[at..at + n].iter().enumerate() {
+old: value = more(value, *x, k);
+new: value = more(value, *x, j);
 END
 edit word mask_by_or <<'END'
 wrong: mask_by_or in split

@@ -2,7 +2,7 @@
 // `binary_json_rules`; the crate `claims` says what that makes of their answers.
 #![tactic(auto)]
 
-pub use binary_json_answers::{Bits, Looked, MemberAt, Scanned, Sized, Span, TreeAt, Typed};
+pub use binary_json_answers::{Looked, MemberAt, Sized, Typed};
 pub use binary_json_areas::offsets::{NumberOffset, SlotOffset, TreeOffset};
 pub use binary_json_check::check;
 pub use binary_json_entries::{
@@ -10,3 +10,4 @@ pub use binary_json_entries::{
 };
 pub use binary_json_lookup::lookup::{plain_scan, quick_lookup};
 pub use binary_json_metas::{element, kind_and_size, member};
+pub use json_model::{Refusal, Span};

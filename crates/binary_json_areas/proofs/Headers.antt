@@ -13,9 +13,7 @@ use Rattle.json_model.specs.Reading.{Reading, ask, refuses, ◌>>◌, need}
 use Rattle.json_model.proofs.Reading.{eq→eqb, over, unlike, pass, fail, need_yes, need_no}
 use Rattle.binary_json_rules.specs.Areas.{word, low, high, index, count, slot}
 use Rattle.binary_json_rules.specs.Verdict.{header}
-use Rattle.binary_json_areas.specs.Laid.{Begun, Framed, Indexed}
-use Rattle.binary_json_areas.specs.declared.areas.Index.{Index}
-use Rattle.json_model.specs.declared.Refusal.{Refusal}
+use Rattle.binary_json_areas.specs.Laid.{Begun, Framed}
 
 -- rule 4
 unfoldable rule4 : {S : Type 0} → List ℕ → Reading S (Unit {0})
@@ -109,24 +107,24 @@ slots_end doc i c g = slot_is doc i c c g ∙ ap (slot doc) g.count_is
 
 -- ---- by the answer of `read_index`
 
-pub index_refused : (doc : List ℕ) (x : Index) (r : Refusal) → Indexed doc x → x ≡ Index.Refused r → ask (header doc) ≡ refuses r.number r.place
-index_refused doc x r h e = rw e at h
+module _ (doc : List ℕ) (i : ℕ) (g : Begun doc i) where
+  pub index_inside : i + 4 ≤ length doc
+  index_inside = g.inside
 
-pub count_refused : (doc : List ℕ) (x : Index) (i c : ℕ) → Indexed doc x → x ≡ Index.At i → c ≡ word doc i → length doc < i + 4 + 4 * c → ask (header doc) ≡ refuses 4 i
-count_refused doc x i c h e w o = slots_outside doc i c (rw e at h) w o
+  pub index_fits : Fits w64 (i + 4)
+  index_fits = let s = g.short in let n = g.inside in omega arith
 
-pub header_framed : (doc : List ℕ) (x : Index) (i c : ℕ) → Indexed doc x → x ≡ Index.At i → c ≡ word doc i → i + 4 + 4 * c ≤ length doc → Framed doc i c
-header_framed doc x i c h e w o = framed doc i c (rw e at h) w o
+  module _ (c : ℕ) where
+    pub slots_fit : c < 2 ^ 32 → Fits w64 (i + 4 + 4 * c)
+    slots_fit b = let s = g.short in let n = g.inside in omega arith
 
-pub index_inside : (doc : List ℕ) (x : Index) (i : ℕ) → Indexed doc x → x ≡ Index.At i → i + 4 ≤ length doc
-index_inside doc x i h e = let g : Begun doc i = rw e at h in g.inside
+    module _ (w : c ≡ word doc i) where
+      pub count_refused : length doc < i + 4 + 4 * c → ask (header doc) ≡ refuses 4 i
+      count_refused o = slots_outside doc i c g w o
 
-pub index_fits : (doc : List ℕ) (x : Index) (i : ℕ) → Indexed doc x → x ≡ Index.At i → Fits w64 (i + 4)
-index_fits doc x i h e = let g : Begun doc i = rw e at h in let s = g.short in let n = g.inside in omega arith
-
-pub slots_fit : (doc : List ℕ) (x : Index) (i c : ℕ) → Indexed doc x → x ≡ Index.At i → c < 2 ^ 32 → Fits w64 (i + 4 + 4 * c)
-slots_fit doc x i c h e b = let g : Begun doc i = rw e at h in let s = g.short in let n = g.inside in omega arith
+      pub header_framed : i + 4 + 4 * c ≤ length doc → Framed doc i c
+      header_framed o = framed doc i c g w o
 
 pub ruleset index_laws = (too_short, too_long, other_version, index_low, index_out_of_step, index_outside, begun, rules)
 
-pub ruleset header_laws = (index_refused, count_refused, header_framed, index_inside, index_fits, slots_fit, rules)
+pub ruleset header_laws = (count_refused, header_framed, index_inside, index_fits, slots_fit, rules)

@@ -22,8 +22,9 @@ use Rattle.binary_json_theorems.proofs.Trees.{slot_at_lem}
 use Rattle.binary_json_areas.specs.Laid.{Laid}
 use Rattle.binary_json_areas.specs.Naming.{SlotNamed, NumberNamed, TextRead, TextNamed}
 use Rattle.binary_json_areas.specs.declared.areas.Areas.{Areas}
-use Rattle.binary_json_areas.specs.declared.named.Numbered.{Numbered}
-use Rattle.binary_json_areas.specs.declared.named.Texted.{Texted}
+use Rattle.binary_json_areas.specs.declared.named.NoNumber.{NoNumber}
+use Rattle.json_model.specs.declared.Span.{Span}
+use Rattle.std.specs.Prelude.{Option, Some, None, Ok, Err}
 use Rattle.binary_json_areas.proofs.Headers.{slot_is, slots_end}
 
 module _ (doc : List ℕ) (a : Areas) (x : Laid doc a) (v : ℕ) where
@@ -59,12 +60,12 @@ long_enough : (doc : List ℕ) (a : Areas) → Laid doc a → 8 ≤ length doc
 long_enough doc a x = let f = x.framed in let l = f.least in let i = f.slots_inside in omega arith
 
 module _ (doc : List ℕ) (a : Areas) (x : Laid doc a) (v : ℕ) where
-  pub before_numbers : v < a.numbers → NumberNamed doc v Numbered.Outside
+  pub before_numbers : v < a.numbers → NumberNamed doc v (Err NoNumber.Outside)
   unfolding number_named
   before_numbers h n p = fail _ _ _ _ tt (over (rw x.numbers_is at h))
 
   module _ (b : a.numbers ≤ v) where
-    pub between_numbers : ((v - a.numbers) % 8 ≡ 0 → ⊥) → NumberNamed doc v Numbered.Outside
+    pub between_numbers : ((v - a.numbers) % 8 ≡ 0 → ⊥) → NumberNamed doc v (Err NoNumber.Outside)
     unfolding number_named
     between_numbers h n p = pass _ _ _ _ tt (le→leb _ _ (rw x.numbers_is at b)) ∙ fail _ _ _ _ tt (unlike (rw x.numbers_is at h))
 
@@ -73,10 +74,10 @@ module _ (doc : List ℕ) (a : Areas) (x : Laid doc a) (v : ℕ) where
       unfolding number_named
       to_inside n p = pass _ _ _ _ tt (le→leb _ _ (rw x.numbers_is at b)) ∙ pass _ _ _ _ tt (eq→eqb (rw x.numbers_is at s))
 
-      outside : length doc < v + 8 → NumberNamed doc v Numbered.Outside
+      outside : length doc < v + 8 → NumberNamed doc v (Err NoNumber.Outside)
       outside h n p = to_inside n p ∙ fail _ _ _ _ tt (over h)
 
-      pub cut_short : length doc - 8 < v → NumberNamed doc v Numbered.Outside
+      pub cut_short : length doc - 8 < v → NumberNamed doc v (Err NoNumber.Outside)
       cut_short h = outside (omega arith)
 
       module _ (l : v ≤ length doc - 8) (bits : ℕ) (e : bits ≡ number (take (length doc - v) (drop v doc)) 0 8) where
@@ -86,11 +87,11 @@ module _ (doc : List ℕ) (a : Areas) (x : Laid doc a) (v : ℕ) where
         to_finite : (n p : ℕ) → ask (number_named doc v n p) ≡ ask (need (finite binary64 (number doc v 8)) 10 p)
         to_finite n p = let m = long_enough doc a x in let q : v + 8 ≤ length doc = omega arith in to_inside n p ∙ pass _ _ _ _ tt (le→leb _ _ q)
 
-        pub not_finite : bits / 4_503_599_627_370_496 % 2048 ≡ 2047 → NumberNamed doc v Numbered.NotFinite
+        pub not_finite : bits / 4_503_599_627_370_496 % 2048 ≡ 2047 → NumberNamed doc v (Err NoNumber.NotFinite)
         unfolding finite
         not_finite q n p = to_finite n p ∙ need_no _ _ _ tt (λ t. T_not (eqb (number doc v 8 / 2 ^ 52 % 2 ^ 11) (2 ^ 11 - 1)) t (eq→eqb (rw bits_are at q)))
 
-        pub finite_number : (bits / 4_503_599_627_370_496 % 2048 ≡ 2047 → ⊥) → NumberNamed doc v (Numbered.Finite bits)
+        pub finite_number : (bits / 4_503_599_627_370_496 % 2048 ≡ 2047 → ⊥) → NumberNamed doc v (Ok bits)
         unfolding finite
         finite_number q = (bits_are, λ n p. to_finite n p ∙ need_yes _ _ _ tt (not_T (eqb (number doc v 8 / 2 ^ 52 % 2 ^ 11) (2 ^ 11 - 1)) (unlike (rw bits_are at q))))
 
@@ -152,12 +153,12 @@ module _ (doc : List ℕ) (a : Areas) (x : Laid doc a) (v : ℕ) (h : SlotNamed 
     end_is : e ≡ text doc (suc (slot_at doc v))
     end_is = es ∙ text_end
 
-    pub starts_early : start < a.index + 4 + 4 * a.count → TextRead doc v Texted.Bad
+    pub starts_early : start < a.index + 4 + 4 * a.count → TextRead doc v None
     unfolding slot_read
     starts_early q c = fail _ _ _ _ tt (over (rw (last_is doc a x v, st) at q))
 
     module _ (b : a.index + 4 + 4 * a.count ≤ start) where
-      pub no_text : e ≤ start → TextRead doc v Texted.Bad
+      pub no_text : e ≤ start → TextRead doc v None
       unfolding slot_read
       no_text q c = pass _ _ _ _ tt (le→leb _ _ (rw (last_is doc a x v, st) at b)) ∙ fail _ _ _ _ tt (past (rw (end_is, st) at q))
 
@@ -167,25 +168,25 @@ module _ (doc : List ℕ) (a : Areas) (x : Laid doc a) (v : ℕ) (h : SlotNamed 
         to_end c =
             pass _ _ _ _ tt (le→leb _ _ (rw (last_is doc a x v, st) at b)) ∙ (pass _ _ _ _ tt (lt→ltb _ _ (rw (st, end_is) at f)) ∙ rw (st, end_is, x.numbers_is))
 
-        pub past_numbers : a.numbers < e → TextRead doc v Texted.Bad
+        pub past_numbers : a.numbers < e → TextRead doc v None
         past_numbers q c = to_end c ∙ fail _ _ _ _ tt (over q)
 
-        pub good_text : e ≤ a.numbers → TextRead doc v (Texted.At start (e - 1 - start))
+        pub good_text : e ≤ a.numbers → TextRead doc v (Some (record { place = start; len = e - 1 - start }))
         good_text q = let i = x.inside in (omega arith, λ c. to_end c ∙ pass _ _ _ _ tt (le→leb _ _ q))
 
 pub ruleset text_laws = (slot_inside, before_inside, before_there, first_start, later_start, starts_early, no_text, past_numbers, good_text, rules)
 
 module _ (doc : List ℕ) (v : ℕ) (g : Bool) (named : SlotNamed doc v g) where
-  pub no_slot : g ≡ false → TextNamed doc v Texted.Bad
+  pub no_slot : g ≡ false → TextNamed doc v None
   unfolding text_named
   no_slot q c = stops _ _ tt ((rw q at named) 20 c)
 
   pub a_name : g ≡ true → SlotNamed doc v true
   a_name q = rw q at named
 
-  pub slot_text : (r : Texted) → g ≡ true → TextRead doc v r → TextNamed doc v r
+  pub slot_text : (r : Option Span) → g ≡ true → TextRead doc v r → TextNamed doc v r
   unfolding text_named
-  slot_text (Texted.At p l) q h = (h.0, λ c. then _ _ tt ((rw q at named) 20 c) ∙ h.1 c)
-  slot_text Texted.Bad q h = λ c. then _ _ tt ((rw q at named) 20 c) ∙ h c
+  slot_text (Some s) q h = (h.0, λ c. then _ _ tt ((rw q at named) 20 c) ∙ h.1 c)
+  slot_text None q h = λ c. then _ _ tt ((rw q at named) 20 c) ∙ h c
 
 pub ruleset named_laws = (no_slot, a_name, slot_text, rules)

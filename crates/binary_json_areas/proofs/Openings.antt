@@ -9,17 +9,15 @@ use lib.Dec.{le→leb}
 use lib.ListN.{length}
 use mir.Syntax.{w64}
 use mir.Val.{Fits}
-use Rattle.json_model.specs.Reading.{Reading, Asked, ask, refuses, ◌>>◌}
+use Rattle.json_model.specs.Reading.{ask, answers, refuses}
 use Rattle.json_model.specs.declared.Refusal.{Refusal}
 use Rattle.json_model.proofs.Reading.{eq→eqb, over, unlike, then, stops, pass, fail, need_yes, need_no}
+use Rattle.binary_json_rules.specs.Verdict.{header}
 use Rattle.binary_json_rules.specs.Areas.{low, high, count, slot, text, numbers}
 use Rattle.binary_json_rules.specs.Questions.{opening, tree_word}
-use Rattle.binary_json_areas.specs.Laid.{Framed, Headed, Laid}
-use Rattle.binary_json_areas.specs.Asking.{Open, Opens, WordNamed, WordAt, WordRead}
+use Rattle.binary_json_areas.specs.Laid.{Framed, Laid}
+use Rattle.binary_json_areas.specs.Asking.{WordNamed, WordAt}
 use Rattle.binary_json_areas.specs.declared.areas.Areas.{Areas}
-use Rattle.binary_json_areas.specs.declared.areas.Header.{Header}
-use Rattle.binary_json_areas.specs.declared.asking.Asking.{Asking}
-use Rattle.binary_json_areas.specs.declared.asking.WordHere.{WordHere}
 use Rattle.binary_json_areas.proofs.Headers.{slot_is, slots_end}
 
 -- ---- where the texts end
@@ -47,14 +45,11 @@ pub ruleset end_laws = (no_texts, last_end, rules)
 
 -- ---- the areas
 
-pub header_refused : (doc : List ℕ) (c : ℕ) (h : Header) (r : Refusal) → Headed doc h → h ≡ Header.Refused r → ask (opening doc c) ≡ refuses r.number r.place
+pub header_refused : (doc : List ℕ) (c : ℕ) (r : Refusal) → ask (header doc) ≡ refuses r.number r.place → ask (opening doc c) ≡ refuses r.number r.place
 unfolding opening
-header_refused doc c h r x e = stops _ _ tt (rw e at x)
+header_refused doc c r x = stops _ _ tt x
 
-module _ (doc : List ℕ) (h : Header) (x : Headed doc h) (i c : ℕ) (e : h ≡ Header.At i c) where
-  pub framed : Framed doc i c
-  framed = rw e at x
-
+module _ (doc : List ℕ) (i c : ℕ) (framed : Framed doc i c) where
   pub index_fits : Fits w64 (i + 4)
   index_fits = let s = framed.slots_inside in let l = framed.short in omega arith
 
@@ -74,14 +69,14 @@ module _ (doc : List ℕ) (h : Header) (x : Headed doc h) (i c : ℕ) (e : h ≡
       unfolding opening
       numbers_refused q = then _ _ tt framed.passes ∙ (pass _ _ _ _ tt (le→leb _ _ (rw (slots_end doc i c framed, ns) at b)) ∙ need_no _ _ _ tt (over (rw ns at q)))
 
-      pub opened : n ≤ length doc → Open doc (record { index = i; count = c; numbers = n }) cursor
+      pub opened : n ≤ length doc → ask (opening doc cursor) ≡ answers tt
       unfolding opening
-      opened q = record {
-        laid = record { framed = framed; numbers_is = ns; texts = b; inside = q };
-        opens = then _ _ tt framed.passes ∙ (pass _ _ _ _ tt (le→leb _ _ (rw (slots_end doc i c framed, ns) at b)) ∙ need_yes _ _ _ tt (le→leb _ _ (rw ns at q)));
-      }
+      opened q = then _ _ tt framed.passes ∙ (pass _ _ _ _ tt (le→leb _ _ (rw (slots_end doc i c framed, ns) at b)) ∙ need_yes _ _ _ tt (le→leb _ _ (rw ns at q)))
 
-pub ruleset open_laws = (header_refused, framed, index_fits, count_fits, slots_fit, texts_refused, numbers_refused, opened, rules)
+      pub areas_laid : n ≤ length doc → Laid doc (record { index = i; count = c; numbers = n })
+      areas_laid q = record { framed = framed; numbers_is = ns; texts = b; inside = q }
+
+pub ruleset open_laws = (header_refused, index_fits, count_fits, slots_fit, texts_refused, numbers_refused, opened, areas_laid, rules)
 
 -- ---- words of the tree
 
@@ -135,10 +130,7 @@ pub ruleset word_here_laws = (no_word, word_inside, word_at, rules)
 
 -- a word of the tree stands at the cursor, with the fields k and v: where a body of v entries or members ends can be
 -- counted
-module _ (doc : List ℕ) (a : Areas) (x : Laid doc a) (c : ℕ) (w : WordHere) (h : WordRead doc a c w) (k v : ℕ) (e : w ≡ WordHere.Of k v) where
-  pub word_is : WordAt doc a c k v
-  word_is = rw e at h
-
+module _ (doc : List ℕ) (a : Areas) (x : Laid doc a) (c : ℕ) (k v : ℕ) (word_is : WordAt doc a c k v) where
   pub body_fits : Fits w64 (c + 4)
   body_fits = let i = word_is.inside in let s = x.framed.slots_inside in let l = x.framed.short in omega arith
 
@@ -156,15 +148,3 @@ module _ (doc : List ℕ) (a : Areas) (x : Laid doc a) (c : ℕ) (w : WordHere) 
 
   pub object_fits : Fits w64 (c + 4 + 4 * (2 * v))
   object_fits = let b = word_is.small in let i = word_is.inside in let s = x.framed.slots_inside in let l = x.framed.short in omega arith
-
--- ---- a question: opened, and then what it asks
-
-pub open_laid : (doc : List ℕ) (c : ℕ) (o : Asking) (a : Areas) → Opens doc c o → o ≡ Asking.Of a → Laid doc a
-open_laid doc c o a x e = let y : Open doc a c = rw e at x in y.laid
-
-module _ {A : Type 0} (doc : List ℕ) (c : ℕ) (rest : Reading (Unit {0}) A) (o : Asking) (x : Opens doc c o) where
-  pub opening_refused : (r : Refusal) → o ≡ Asking.Refused r → refuses r.number r.place ≡ ask (opening doc c >> rest)
-  opening_refused r e = sym (stops _ _ tt (rw e at x))
-
-  pub opening_passed : (a : Areas) (s : Asked A) → o ≡ Asking.Of a → s ≡ ask rest → s ≡ ask (opening doc c >> rest)
-  opening_passed a s e h = let y : Open doc a c = rw e at x in h ∙ sym (then _ _ tt y.opens)

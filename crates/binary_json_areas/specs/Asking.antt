@@ -1,21 +1,17 @@
 -- What the functions that begin every question say to one another.
-use Rattle.std.specs.Prelude.{ℕ, ◌+◌, ◌^◌, ◌≤◌, ◌<◌, Bool, true, false, List, ◌≡◌}
+use Rattle.std.specs.Prelude.{ℕ, ◌+◌, ◌^◌, ◌≤◌, ◌<◌, Bool, true, false, List, ◌≡◌, Result, Ok, Err}
 use Rattle.json_model.specs.Reading.{ask, answers, refuses}
 use Rattle.binary_json_rules.specs.Areas.{low, high}
 use Rattle.binary_json_rules.specs.Questions.{opening, tree_word}
-use Rattle.binary_json_areas.specs.Laid.{Laid}
 use Rattle.binary_json_areas.specs.declared.areas.Areas.{Areas}
-use Rattle.binary_json_areas.specs.declared.asking.Asking.{Asking}
-use Rattle.binary_json_areas.specs.declared.asking.WordHere.{WordHere}
+use Rattle.binary_json_areas.specs.declared.document.Document.{Document}
+use Rattle.json_model.specs.declared.Refusal.{Refusal}
+use Rattle.word.specs.declared.Fields.{Fields}
 
--- a document whose areas are a, asked at the cursor c
-pub record Open (doc : List ℕ) (a : Areas) (c : ℕ) : Type 0 where
-  pub laid : Laid doc a
-  pub opens : ask (opening doc c) ≡ answers tt
-
-abbrev pub Opens : List ℕ → ℕ → Asking → Type 0
-Opens doc c (Asking.Of a) = Open doc a c
-Opens doc c (Asking.Refused r) = ask (opening doc c) ≡ refuses r.number r.place
+-- a document that is open for a question at the cursor c
+abbrev pub Opens : List ℕ → ℕ → Result Document Refusal → Type 0
+Opens doc c (Ok d) = (d.bytes.now ≡ doc) × (ask (opening doc c) ≡ answers tt)
+Opens doc c (Err r) = ask (opening doc c) ≡ refuses r.number r.place
 
 -- whether a word of the tree stands at a place, whatever cursor the caller refuses at
 abbrev pub WordNamed : List ℕ → Areas → ℕ → Bool → Type 0
@@ -30,6 +26,6 @@ pub record WordAt (doc : List ℕ) (a : Areas) (c k v : ℕ) : Type 0 where
   pub inside : c + 4 ≤ a.index
   pub there : ask (tree_word doc c c) ≡ answers tt
 
-abbrev pub WordRead : List ℕ → Areas → ℕ → WordHere → Type 0
-WordRead doc a c (WordHere.Of k v) = WordAt doc a c k v
-WordRead doc a c (WordHere.Refused r) = ask (tree_word doc c c) ≡ refuses r.number r.place
+abbrev pub WordRead : List ℕ → Areas → ℕ → Result Fields Refusal → Type 0
+WordRead doc a c (Ok f) = WordAt doc a c f.low f.high
+WordRead doc a c (Err r) = ask (tree_word doc c c) ≡ refuses r.number r.place

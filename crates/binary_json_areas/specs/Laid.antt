@@ -1,12 +1,11 @@
 -- What the inner functions of the reader say to one another: facts of the areas of a document, as the code holds them.
-use Rattle.std.specs.Prelude.{ℕ, ◌+◌, ◌*◌, ◌%◌, ◌≤◌, List, ◌≡◌, leb, length}
+use Rattle.std.specs.Prelude.{ℕ, ◌+◌, ◌*◌, ◌%◌, ◌≤◌, List, ◌≡◌, leb, length, Result, Ok, Err}
 use Rattle.json_model.specs.Limits.{longest}
 use Rattle.json_model.specs.Reading.{ask, answers, refuses, need}
 use Rattle.binary_json_rules.specs.Areas.{index, count, slot, numbers}
 use Rattle.binary_json_rules.specs.Verdict.{header, slots}
 use Rattle.binary_json_areas.specs.declared.areas.Areas.{Areas}
-use Rattle.binary_json_areas.specs.declared.areas.Index.{Index}
-use Rattle.binary_json_areas.specs.declared.areas.Header.{Header}
+use Rattle.json_model.specs.declared.Refusal.{Refusal}
 
 -- a document that keeps rules 1 to 4 but perhaps for its slots, with its string index at i
 pub record Begun (doc : List ℕ) (i : ℕ) : Type 0 where
@@ -17,9 +16,9 @@ pub record Begun (doc : List ℕ) (i : ℕ) : Type 0 where
   pub step : i % 4 ≡ 0
   pub inside : i + 4 ≤ length doc
 
-abbrev pub Indexed : List ℕ → Index → Type 0
-Indexed doc (Index.At i) = Begun doc i
-Indexed doc (Index.Refused r) = ask (header doc) ≡ refuses r.number r.place
+abbrev pub Indexed : List ℕ → Result ℕ Refusal → Type 0
+Indexed doc (Ok i) = Begun doc i
+Indexed doc (Err r) = ask (header doc) ≡ refuses r.number r.place
 
 -- a document that keeps rules 1 to 4, with its string index at i and c strings
 pub record Framed (doc : List ℕ) (i c : ℕ) : Type 0 where
@@ -30,10 +29,6 @@ pub record Framed (doc : List ℕ) (i c : ℕ) : Type 0 where
   pub least : 8 ≤ i
   pub step : i % 4 ≡ 0
   pub slots_inside : i + 4 + 4 * c ≤ length doc
-
-abbrev pub Headed : List ℕ → Header → Type 0
-Headed doc (Header.At i c) = Framed doc i c
-Headed doc (Header.Refused r) = ask (header doc) ≡ refuses r.number r.place
 
 -- the areas of a document that keeps rules 1 to 4 and whose texts end inside it
 pub record Laid (doc : List ℕ) (a : Areas) : Type 0 where

@@ -1,3 +1,4 @@
 pub mod Laid
+pub mod Headed
 pub mod Naming
 pub mod Asking

@@ -1,10 +1,13 @@
 // Where the areas of a document stand, and the words in them. Words are read here and nowhere else.
 ghost use Rattle.std.specs.Prelude.{◌≡◌, ◌+◌, ◌*◌, ◌^◌, ◌≤◌, ◌<◌, length};
+ghost use Rattle.json_model.specs.Bytes.{part};
 ghost use Rattle.binary_json_rules.specs.Areas.{word, low, high};
-ghost use Rattle.binary_json_areas.specs.Laid.{Indexed, Headed};
+ghost use Rattle.binary_json_areas.specs.Headed.{Headed};
+ghost use Rattle.binary_json_areas.specs.Laid.{Indexed};
 
-use json_model::Refusal;
+use crate::header::Header;
 use json_model::limits::{LEAST_BINARY, LONGEST};
+use json_model::{Refusal, Span, refuse};
 use word::Fields;
 
 // The word at a place.
@@ -23,93 +26,54 @@ pub fn fields_at(doc: &[u8], at: usize) -> Fields
     word::split(word::word_at(doc, at), 5)
 }
 
-// Where the string index starts, or why the document is refused.
-#[derive(Clone, Copy)]
-pub enum Index {
-    At(usize),
-    Refused(Refusal),
+// The part of a document that a text takes up.
+pub fn part(doc: &[u8], text: Span) -> &[u8]
+    requires { text.place + text.len ≤ length doc.now }
+    ensures { result.now ≡ part doc.now text.place text.len }
+{
+    &doc[text.place..text.place + text.len]
 }
 
-// Rules 1 to 4, as far as they concern the string index offset.
-fn read_index(doc: &[u8]) -> Index
+// Rules 1 to 4, as far as they concern the string index offset: where the string index starts.
+#[tactic(auto, using(crate::proofs::Headers::index_laws))]
+fn read_index(doc: &[u8]) -> Result<usize, Refusal>
     ensures { Indexed doc.now result }
 {
     let len = doc.len();
     if len < LEAST_BINARY {
-        return Index::Refused(Refusal {
-            number: 1,
-            place: len,
-        });
+        return refuse(1, len);
     }
     if LONGEST < len {
-        return Index::Refused(Refusal {
-            number: 2,
-            place: len,
-        });
+        return refuse(2, len);
     }
-    let f = fields_at(doc, 0);
-    let version = f.low;
-    let index = f.high;
+    let Fields {
+        low: version,
+        high: index,
+    } = fields_at(doc, 0);
     if version != 1 {
-        return Index::Refused(Refusal {
-            number: 3,
-            place: 0,
-        });
+        return refuse(3, 0);
     }
-    if index < 8 {
-        return Index::Refused(Refusal {
-            number: 4,
-            place: 0,
-        });
+    if index < 8 || index % 4 != 0 || len < index + 4 {
+        return refuse(4, 0);
     }
-    let step = index % 4;
-    if step != 0 {
-        return Index::Refused(Refusal {
-            number: 4,
-            place: 0,
-        });
-    }
-    if len < index + 4 {
-        return Index::Refused(Refusal {
-            number: 4,
-            place: 0,
-        });
-    }
-    Index::At(index)
-}
-
-// Where the string index starts and how many strings it has, or why the document is refused.
-#[derive(Clone, Copy)]
-pub enum Header {
-    At { index: usize, count: usize },
-    Refused(Refusal),
+    Ok(index)
 }
 
 // Rules 1 to 4.
-pub fn read_header(doc: &[u8]) -> Header
-    ensures { Headed doc.now result }
+#[tactic(auto, using(crate::proofs::Headers::header_laws))]
+pub fn read_header(bytes: &[u8]) -> Result<Header<'_>, Refusal>
+    ensures { Headed bytes.now result }
 {
-    let i = read_index(doc);
-    match i {
-        Index::Refused(r) => Header::Refused(r),
-        Index::At(index) => {
-            let count = word_at(doc, index);
-            if doc.len() < index + 4 + 4 * count {
-                return Header::Refused(Refusal {
-                    number: 4,
-                    place: index,
-                });
-            }
-            Header::At { index, count }
-        }
+    let index = read_index(bytes)?;
+    let count = word_at(bytes, index);
+    if bytes.len() < index + 4 + 4 * count {
+        return refuse(4, index);
     }
-}
-
-// Where something ends, or why it is refused.
-#[derive(Clone, Copy)]
-pub enum Walk {
-    End(usize),
-    Refused(Refusal),
+    Ok(Header {
+        bytes,
+        index,
+        count,
+    })
 }
 
 // The areas of a document: where the string index starts, how many strings it has, and where the numbers start.

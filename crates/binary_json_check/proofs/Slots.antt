@@ -1,6 +1,7 @@
 -- Rules 5 and 6, one law for each way through the functions of `strings`.
 use mathlib.Core.Path.{◌≡◌, refl, sym, ap, ◌∙◌}
-use mathlib.Core.Bool.{true, false}
+use mathlib.Core.Bool.{true}
+use mathlib.Core.Logic.{◌⊎◌, inl, inr}
 use mathlib.Core.List.{List}
 use Prim.Native.Nat.{ℕ, zero, suc, ◌+◌, ◌-◌, ◌*◌, ◌≤◌, ◌<◌}
 use native.Mathlib.Omega.{arith}
@@ -10,15 +11,15 @@ use lib.ListN.{length, get_or}
 use Rattle.json_model.specs.Reading.{Reading, ask, refuses, need, ◌>>=◌}
 use Rattle.json_model.specs.Bytes.{part}
 use Rattle.json_model.specs.Texts.{compare_texts, is_below}
-use Rattle.json_model.specs.declared.Order.{Order}
-use Rattle.json_model.specs.declared.Order.TheVariants.{Below}
+use Rattle.std.specs.declared.cmp.Ordering.{Ordering}
+use Rattle.std.specs.declared.cmp.Ordering.TheVariants.{Less, Equal, Greater}
 use Rattle.json_model.specs.declared.Refusal.{Refusal}
 use Rattle.json_model.proofs.Reading.{eq→eqb, over, past, unlike, then, stops, pass, fail, need_yes, need_no}
 use Rattle.binary_json_rules.specs.Areas.{low, high, count, slot, text, content, numbers}
 use Rattle.binary_json_rules.specs.Verdict.{ascends, slot_rules, slots}
 use Rattle.binary_json_areas.specs.Laid.{Framed}
 use Rattle.binary_json_check.specs.Slots.{Texts, Rule5, SlotKeeps, SlotsRead}
-use Rattle.binary_json_areas.specs.declared.areas.Walk.{Walk}
+use Rattle.std.specs.Prelude.{Ok}
 use Rattle.binary_json_areas.proofs.Headers.{slot_is, slots_end}
 
 text_after : (doc : List ℕ) (k : ℕ) → text doc (suc k) ≡ high doc (slot doc k)
@@ -62,7 +63,7 @@ module _ (doc : List ℕ) (i c k start : ℕ) (g : Framed doc i c) (st : start �
         unfolding slot_rules
         unclosed_refused h = rw (slot_is doc i c k g) (one _ ∙ (pass _ _ _ _ tt two ∙ (pass _ _ _ _ tt three ∙ fail _ _ _ _ tt (unlike (rw end_is at h)))))
 
-        pub slot_ends : get_or doc (e - 1) 0 ≡ 0 → Rule5 doc k (Walk.End e)
+        pub slot_ends : get_or doc (e - 1) 0 ≡ 0 → Rule5 doc k (Ok e)
         unfolding slot_rules
         slot_ends h = (end_is, omega arith, inside, one _ ∙ (pass _ _ _ _ tt two ∙ (pass _ _ _ _ tt three ∙ pass _ _ _ _ tt (eq→eqb (rw end_is at h)))))
 
@@ -77,43 +78,40 @@ predecessor (suc j) h = (j, refl)
 pub texts_prior : (doc : List ℕ) (k before start : ℕ) → Texts doc k before start → (k ≡ 0 → ⊥) → before < start
 texts_prior doc k before start x h = let (j, e) = predecessor k h in (x.prior j e).1
 
-ascends_at : (doc : List ℕ) (j before start e : ℕ) (o : Order) → before ≡ text doc j → start ≡ text doc (suc j) → e ≡ text doc (suc (suc j))
+ascends_at : (doc : List ℕ) (j before start e : ℕ) (o : Ordering) → before ≡ text doc j → start ≡ text doc (suc j) → e ≡ text doc (suc (suc j))
     → o ≡ compare_texts (part doc before (start - 1 - before)) (part doc start (e - 1 - start)) → ascends doc (suc j) ≡ is_below o
 unfolding ascends content
 ascends_at doc j before start e o a b c d = rw (d, a, b, c)
 
-module _ (doc : List ℕ) (k : ℕ) (w : Walk) (h : Rule5 doc k w) where
-  pub rule5_refused : (r : Refusal) → w ≡ Walk.Refused r → ask (slot_rules doc k) ≡ refuses r.number r.place
-  rule5_refused r e = rw e at h
+not_less : (o : Ordering) → (o ≡ Equal) ⊎ (o ≡ Greater) → T (is_below o) → ⊥
+not_less o (inl e) t = rw e at t
+not_less o (inr e) t = rw e at t
 
-  module _ (e : ℕ) (at-end : w ≡ Walk.End e) where
-    ended : Rule5 doc k (Walk.End e)
-    ended = rw at-end at h
+module _ (doc : List ℕ) (k e : ℕ) (ended : Rule5 doc k (Ok e)) where
+  pub end_inside : e ≤ length doc
+  end_inside = ended.2
 
-    pub end_inside : e ≤ length doc
-    end_inside = ended.2
+  pub end_forward : (before start : ℕ) → Texts doc k before start → start < e
+  end_forward before start x = let a = x.start_is in let b = ended.1 in omega arith
 
-    pub end_forward : (before start : ℕ) → Texts doc k before start → start < e
-    end_forward before start x = let a = x.start_is in let b = ended.1 in omega arith
+  pub first_read : k ≡ 0 → SlotKeeps doc k (Ok e)
+  unfolding ascends
+  first_read z = (ended.0, ended.1, ended.2, ended.3 ∙ rw z (need_yes true 6 _ tt tt))
 
-    pub first_read : k ≡ 0 → SlotKeeps doc k (Walk.End e)
-    unfolding ascends
-    first_read z = (ended.0, ended.1, ended.2, ended.3 ∙ rw z (need_yes true 6 _ tt tt))
+  module _ (before start : ℕ) (x : Texts doc k before start) (later : k ≡ 0 → ⊥) (o : Ordering)
+      (p q : List ℕ) (first : p ≡ part doc before (start - 1 - before)) (second : q ≡ part doc start (e - 1 - start)) (compared : o ≡ compare_texts p q) where
+    ascends_is : ascends doc k ≡ is_below o
+    ascends_is =
+        let (j, r) = predecessor k later in
+        ap (ascends doc) r ∙ ascends_at doc j before start e o (x.prior j r).0 (x.start_is ∙ ap (text doc) r) (ended.0 ∙ ap (λ n. text doc (suc n)) r) (compared ∙ rw (first, second))
 
-    module _ (before start : ℕ) (x : Texts doc k before start) (later : k ≡ 0 → ⊥) (o : Order)
-        (p q : List ℕ) (first : p ≡ part doc before (start - 1 - before)) (second : q ≡ part doc start (e - 1 - start)) (compared : o ≡ compare_texts p q) where
-      ascends_is : ascends doc k ≡ is_below o
-      ascends_is =
-          let (j, r) = predecessor k later in
-          ap (ascends doc) r ∙ ascends_at doc j before start e o (x.prior j r).0 (x.start_is ∙ ap (text doc) r) (ended.0 ∙ ap (λ n. text doc (suc n)) r) (compared ∙ rw (first, second))
+    pub below_read : o ≡ Less → SlotKeeps doc k (Ok e)
+    below_read q = (ended.0, ended.1, ended.2, ended.3 ∙ need_yes _ _ _ tt (rw (ascends_is, q) tt))
 
-      pub below_read : o ≡ Below → SlotKeeps doc k (Walk.End e)
-      below_read q = (ended.0, ended.1, ended.2, ended.3 ∙ need_yes _ _ _ tt (rw (ascends_is, q) tt))
+    pub not_below : (i c : ℕ) → Framed doc i c → (o ≡ Equal) ⊎ (o ≡ Greater) → ask (slot_rules doc k) ≡ refuses 6 (i + 4 + 4 * k)
+    not_below i c g q = ended.3 ∙ rw (slot_is doc i c k g) (need_no _ _ _ tt (λ t. not_less o q (rw ascends_is at t)))
 
-      pub not_below : (i c : ℕ) → Framed doc i c → (m : Order) → o ≡ m → is_below m ≡ false → ask (slot_rules doc k) ≡ refuses 6 (i + 4 + 4 * k)
-      not_below i c g m q n = ended.3 ∙ rw (slot_is doc i c k g) (need_no _ _ _ tt (λ t. rw (ascends_is, q, n) at t))
-
-pub ruleset read_slot_laws = (texts_prior, rule5_refused, end_inside, end_forward, first_read, below_read, not_below, rules)
+pub ruleset read_slot_laws = (texts_prior, end_inside, end_forward, first_read, below_read, not_below, rules)
 
 -- ---- all slots in turn
 
@@ -135,14 +133,13 @@ slotted_first doc i c b g =
       after = omega arith;
     }
 
-module _ (doc : List ℕ) (c k before start : ℕ) (x : Slotted doc c k before start) (w : Walk) (h : SlotKeeps doc k w) (b : k < c) where
+module _ (doc : List ℕ) (c k before start : ℕ) (x : Slotted doc c k before start) (b : k < c) where
   one_more : ask (slots doc (c - k) k) ≡ ask (slot_rules doc k >>= λ _. slots doc (c - suc k) (suc k))
   unfolding slots
   one_more = let e : c - k ≡ suc (c - suc k) = omega arith in rw e
 
-  pub slotted_next : (e : ℕ) → w ≡ Walk.End e → Slotted doc c (k + 1) start e
-  slotted_next e q =
-      let read : SlotKeeps doc k (Walk.End e) = rw q at h in
+  pub slotted_next : (e : ℕ) → SlotKeeps doc k (Ok e) → Slotted doc c (k + 1) start e
+  slotted_next e read =
       let n : k + 1 ≡ suc k = omega arith in
       let s = x.texts.start_is in
       let f = read.1 in
@@ -154,10 +151,10 @@ module _ (doc : List ℕ) (c k before start : ℕ) (x : Slotted doc c k before s
         after = omega arith;
       }
 
-  pub slotted_refused : (r : Refusal) → w ≡ Walk.Refused r → ask (slots doc (count doc) 0) ≡ refuses r.number r.place
-  slotted_refused r q = sym x.same ∙ (one_more ∙ stops _ _ tt (rw q at h))
+  pub slotted_refused : (r : Refusal) → ask (slot_rules doc k) ≡ refuses r.number r.place → ask (slots doc (count doc) 0) ≡ refuses r.number r.place
+  slotted_refused r q = sym x.same ∙ (one_more ∙ stops _ _ tt q)
 
-pub slotted_done : (doc : List ℕ) (i c k before start : ℕ) → Framed doc i c → Slotted doc c k before start → c ≤ k → SlotsRead doc (Walk.End start)
+pub slotted_done : (doc : List ℕ) (i c k before start : ℕ) → Framed doc i c → Slotted doc c k before start → c ≤ k → SlotsRead doc (Ok start)
 unfolding numbers slots
 slotted_done doc i c k before start g x b =
     let u = x.upto in

@@ -2,16 +2,21 @@
 use mathlib.Core.Path.{◌≡◌, refl, sym, ap, ◌∙◌, subst}
 use mathlib.Core.Bool.{Bool, true, false}
 use mathlib.Core.List.{List}
-use Prim.Native.Nat.{ℕ, zero, suc, ◌+◌, ◌-◌, ◌*◌, ◌/◌, ◌%◌, ◌≤◌, ◌<◌}
+use Prim.Native.Nat.{ℕ, zero, suc, ◌+◌, ◌-◌, ◌*◌, ◌/◌, ◌%◌, ◌^◌, ◌≤◌, ◌<◌}
 use native.Mathlib.Omega.{arith}
 use borrow.Author.Rules.{rules}
+use mir.Syntax.{w64}
+use mir.Val.{Fits}
 use borrow.Author.Tests.{lt-ltb}
 use lib.Dec.{T, leb, le→leb, lt→ltb, leb→le, ltb→lt, eqb→eq}
-use lib.ListN.{length}
+use lib.ListN.{length, take, drop}
+use borrow.Rule.Slice.PartMut.{put_mid}
+use Rattle.std.proofs.lemmas.Float.{T_from_true}
+use Rattle.binary_json_check.proofs.MarkLaws.{put_filled, put_same, clear_part}
 use Rattle.json_model.specs.Limits.{deepest}
-use Rattle.json_model.specs.Reading.{Outcome, halt, done, Reading, refuse, ask, answers, refuses, told, follow, ◌>>=◌, need}
+use Rattle.json_model.specs.Reading.{Outcome, halt, done, Reading, refuse, ask, answers, refuses, follow, ◌>>=◌, ◌>>◌, need}
 use Rattle.json_model.specs.declared.Refusal.{Refusal}
-use Rattle.json_model.specs.declared.Verdict.{Verdict}
+use Rattle.std.specs.Prelude.{Option, Some, None, Result, Ok, Err}
 use Rattle.json_model.proofs.Reading.{eq→eqb, over, past, unlike, then, stops, pass, fail, carry}
 use Rattle.binary_json_rules.specs.Areas.{word, low, high, index, count, slot, k_array, k_object, kind_of, type_of}
 use Rattle.binary_json_rules.specs.Verdict.{slot_named, key_entries, entry_by, entry, entries, mark_body, container_by, container, scalar, root_by}
@@ -21,19 +26,16 @@ use Rattle.binary_json_theorems.proofs.Cases.{by_kind, by_type}
 use Rattle.binary_json_areas.specs.Laid.{Laid}
 use Rattle.binary_json_areas.specs.Naming.{SlotNamed, NumberNamed}
 use Rattle.binary_json_check.specs.Taken.{Taken}
-use Rattle.binary_json_check.specs.Told.{told_marks}
-use Rattle.binary_json_check.specs.Walks.{told_mark, on_step, Stepped, container_with, BodyIs}
+use Rattle.binary_json_check.specs.Walks.{on_step, Stepped, container_with, BodyIs}
 use Rattle.binary_json_areas.specs.declared.areas.Areas.{Areas}
-use Rattle.binary_json_areas.specs.declared.named.Numbered.{Numbered}
-use Rattle.binary_json_check.specs.declared.walk.Step.{Step}
-use Rattle.binary_json_check.specs.declared.walk.Body.{Body}
+use Rattle.binary_json_areas.specs.declared.named.NoNumber.{NoNumber}
+use Rattle.binary_json_check.specs.declared.walk.Entries.{Entries}
 
 -- ---- rule 11
 
--- the KeyEntries from at on, above p, are all that is left of the n from first on; p is the string index or a slot
-pub record Keyed (doc : List ℕ) (a : Areas) (first n left p at : ℕ) : Type 0 where
-  pub same : ask (key_entries doc left p at) ≡ ask (key_entries doc n 0 first)
-  pub inside : at + 4 * left ≤ a.index
+-- the KeyEntries from the k-th on, above p, are all that is left of the n from first on; p is the string index or a slot
+pub record Keyed (doc : List ℕ) (first n k p : ℕ) : Type 0 where
+  pub same : ask (key_entries doc (n - k) p (first + 4 * k)) ≡ ask (key_entries doc n 0 first)
   pub above : index doc ≤ p
 
 -- tests with one number and place: whichever fails, the refusal is the same
@@ -82,48 +84,56 @@ from_index doc (suc n) at =
     (λ t. let h : index doc + 4 + 4 * 0 ≤ word doc at = leb→le _ _ t in lt-ltb (index doc) (word doc at) (omega arith) ∙ sym (lt-ltb 0 (word doc at) (omega arith)))
 
 module _ (doc : List ℕ) (a : Areas) (laid : Laid doc a) (first n : ℕ) where
-  pub keyed_first : first + 4 * n ≤ a.index → Keyed doc a first n n a.index first
-  keyed_first h = let i = laid.framed.index_is in record { same = rw i (from_index doc n first); inside = h; above = omega arith }
+  pub keyed_first : Keyed doc first n 0 a.index
+  keyed_first =
+      let i = laid.framed.index_is in
+      let p : first + 4 * 0 ≡ first = omega arith in
+      let q : n - 0 ≡ n = omega arith in
+      record { same = rw (i, p, q) (from_index doc n first); above = omega arith }
 
-  module _ (left p at : ℕ) (x : Keyed doc a first n left p at) (b : 0 < left) (v : ℕ) (is : v ≡ word doc at) where
-    key_refused : (slot doc 0 ≤ v → (v - slot doc 0) % 4 ≡ 0 → v < slot doc (count doc) → p < v → ⊥) → refuses 11 at ≡ ask (key_entries doc n 0 first)
-    key_refused f = let e : suc (left - 1) ≡ left = omega arith in sym (key_fails doc (left - 1) p at (rw is at f)) ∙ rw e x.same
+  module _ (k p : ℕ) (x : Keyed doc first n k p) (b : k < n) (v : ℕ) (is : v ≡ word doc (first + 4 * k)) where
+    left : suc (n - (k + 1)) ≡ n - k
+    left = omega arith
 
-    pub not_above : v ≤ p → refuses 11 at ≡ ask (key_entries doc n 0 first)
+    key_refused : (slot doc 0 ≤ v → (v - slot doc 0) % 4 ≡ 0 → v < slot doc (count doc) → p < v → ⊥) → refuses 11 (first + 4 * k) ≡ ask (key_entries doc n 0 first)
+    key_refused f = sym (key_fails doc (n - (k + 1)) p (first + 4 * k) (rw is at f)) ∙ rw left x.same
+
+    pub not_above : v ≤ p → refuses 11 (first + 4 * k) ≡ ask (key_entries doc n 0 first)
     not_above h = key_refused (λ q r s t. omega arith)
 
     module _ (over : p < v) where
       pub above_index : a.index ≤ v
       above_index = let i = laid.framed.index_is in let u = x.above in omega arith
 
-      pub key_out_of_step : ((v - a.index) % 4 ≡ 0 → ⊥) → refuses 11 at ≡ ask (key_entries doc n 0 first)
+      pub key_out_of_step : ((v - a.index) % 4 ≡ 0 → ⊥) → refuses 11 (first + 4 * k) ≡ ask (key_entries doc n 0 first)
       unfolding slot
       key_out_of_step h = let i = laid.framed.index_is in key_refused (λ q r s t. h (omega arith))
 
-      pub past_slots : a.index + 4 + 4 * a.count ≤ v → refuses 11 at ≡ ask (key_entries doc n 0 first)
+      pub past_slots : a.index + 4 + 4 * a.count ≤ v → refuses 11 (first + 4 * k) ≡ ask (key_entries doc n 0 first)
       unfolding slot
       past_slots h = let i = laid.framed.index_is in let c = laid.framed.count_is in key_refused (λ q r s t. omega arith)
 
-      pub keyed_next : (v - a.index) % 4 ≡ 0 → v < a.index + 4 + 4 * a.count → Keyed doc a first n (left - 1) v (at + 4)
+      pub keyed_next : (v - a.index) % 4 ≡ 0 → v < a.index + 4 + 4 * a.count → Keyed doc first n (k + 1) v
       unfolding slot
       keyed_next s e =
           let i = laid.framed.index_is in
           let c = laid.framed.count_is in
           let u = x.above in
-          let z = x.inside in
-          let q : suc (left - 1) ≡ left = omega arith in
           record {
-            same = goes (omega arith) (omega arith) (omega arith) (omega arith) ∙ rw q x.same;
-            inside = omega arith;
+            same = goes (omega arith) (omega arith) (omega arith) (omega arith) ∙ rw left x.same;
             above = omega arith;
           }
         where
-          goes : slot doc 0 ≤ v → (v - slot doc 0) % 4 ≡ 0 → v < slot doc (count doc) → p < v → ask (key_entries doc (left - 1) v (at + 4)) ≡ ask (key_entries doc (suc (left - 1)) p at)
-          goes d e f g = rw is (sym (key_passes doc (left - 1) p at (rw is at d) (rw is at e) (rw is at f) (rw is at g)))
+          on : first + 4 * k + 4 ≡ first + 4 * (k + 1)
+          on = omega arith
 
-pub keyed_done : (doc : List ℕ) (a : Areas) (first n left p at : ℕ) → Keyed doc a first n left p at → left ≤ 0 → answers tt ≡ ask (key_entries doc n 0 first)
+          goes : slot doc 0 ≤ v → (v - slot doc 0) % 4 ≡ 0 → v < slot doc (count doc) → p < v
+              → ask (key_entries doc (n - (k + 1)) v (first + 4 * (k + 1))) ≡ ask (key_entries doc (suc (n - (k + 1))) p (first + 4 * k))
+          goes d e f g = rw (← on) (rw is (sym (key_passes doc (n - (k + 1)) p (first + 4 * k) (rw is at d) (rw is at e) (rw is at f) (rw is at g))))
+
+pub keyed_done : (doc : List ℕ) (first n k p : ℕ) → Keyed doc first n k p → n ≤ k → answers tt ≡ ask (key_entries doc n 0 first)
 unfolding key_entries
-keyed_done doc a first n left p at x h = let e : left ≡ 0 = omega arith in (rw e at x.same)
+keyed_done doc first n k p x h = let e : n - k ≡ 0 = omega arith in (rw e at x.same)
 
 pub ruleset key_laws = (keyed_first, not_above, above_index, key_out_of_step, past_slots, keyed_next, keyed_done, rules)
 
@@ -145,48 +155,46 @@ module _ (doc : List ℕ) (c at kind value : ℕ) (ks : kind ≡ low doc at) (vs
   unfolding entry
   of_kind child ms = rw ks
 
-  pub plain_entry : kind < 3 → Stepped doc c at Step.Pass
+  pub plain_entry : kind < 3 → Stepped doc c at (Ok None)
   unfolding Stepped
   plain_entry h = (tt, λ child ms. sym (small_type doc c at child ms kind h) ∙ of_kind child ms)
 
   module _ (k3 : kind ≡ 3) (g : Bool) (named : SlotNamed doc value g) where
-    pub string_entry : g ≡ true → Stepped doc c at Step.Pass
+    pub string_entry : g ≡ true → Stepped doc c at (Ok None)
     unfolding Stepped entry_by type_of
     string_entry q = (tt, λ child ms. sym (rw (k3, sym vs) (carry_slot_named doc value 9 at ms ∙ ap (carry ms) ((rw q at named) 9 at))) ∙ of_kind child ms)
 
-    pub string_refused : g ≡ false → Stepped doc c at (Step.Refused (record { number = 9; place = at }))
+    pub string_refused : g ≡ false → Stepped doc c at (Err (record { place = at; number = 9 }))
     unfolding Stepped entry_by type_of
     string_refused q = (tt, λ child ms. sym (rw (k3, sym vs) (carry_slot_named doc value 9 at ms ∙ ap (carry ms) ((rw q at named) 9 at))) ∙ of_kind child ms)
 
-  module _ (k4 : kind ≡ 4) (m : Numbered) (named : NumberNamed doc value m) where
-    pub number_entry : (bits : ℕ) → m ≡ Numbered.Finite bits → Stepped doc c at Step.Pass
+  module _ (k4 : kind ≡ 4) where
+    pub number_entry : (bits : ℕ) → NumberNamed doc value (Ok bits) → Stepped doc c at (Ok None)
     unfolding Stepped entry_by type_of
-    number_entry bits q =
-        let h : NumberNamed doc value (Numbered.Finite bits) = rw q at named in
-        (tt, λ child ms. sym (rw (k4, sym vs) (carry_number_named doc value 9 at ms ∙ ap (carry ms) (h.1 9 at))) ∙ of_kind child ms)
+    number_entry bits h = (tt, λ child ms. sym (rw (k4, sym vs) (carry_number_named doc value 9 at ms ∙ ap (carry ms) (h.1 9 at))) ∙ of_kind child ms)
 
-    pub not_finite_refused : m ≡ Numbered.NotFinite → Stepped doc c at (Step.Refused (record { number = 10; place = at }))
+    pub not_finite_refused : NumberNamed doc value (Err NoNumber.NotFinite) → Stepped doc c at (Err (record { place = at; number = 10 }))
     unfolding Stepped entry_by type_of
-    not_finite_refused q = (tt, λ child ms. sym (rw (k4, sym vs) (carry_number_named doc value 9 at ms ∙ ap (carry ms) ((rw q at named) 9 at))) ∙ of_kind child ms)
+    not_finite_refused h = (tt, λ child ms. sym (rw (k4, sym vs) (carry_number_named doc value 9 at ms ∙ ap (carry ms) (h 9 at))) ∙ of_kind child ms)
 
-    pub outside_refused : m ≡ Numbered.Outside → Stepped doc c at (Step.Refused (record { number = 9; place = at }))
+    pub outside_refused : NumberNamed doc value (Err NoNumber.Outside) → Stepped doc c at (Err (record { place = at; number = 9 }))
     unfolding Stepped entry_by type_of
-    outside_refused q = (tt, λ child ms. sym (rw (k4, sym vs) (carry_number_named doc value 9 at ms ∙ ap (carry ms) ((rw q at named) 9 at))) ∙ of_kind child ms)
+    outside_refused h = (tt, λ child ms. sym (rw (k4, sym vs) (carry_number_named doc value 9 at ms ∙ ap (carry ms) (h 9 at))) ∙ of_kind child ms)
 
   module _ (k5 : kind ≡ 5) where
-    pub container_entry : value % 4 ≡ 0 → c < value → Stepped doc c at (Step.Child value)
+    pub container_entry : value % 4 ≡ 0 → c < value → Stepped doc c at (Ok (Some value))
     unfolding Stepped entry_by type_of
     container_entry q p = (p, λ child ms. sym (rw (k5, sym vs) (pass _ _ _ _ ms (eq→eqb q) ∙ pass _ _ _ _ ms (lt→ltb _ _ p))) ∙ of_kind child ms)
 
-    pub not_past : value % 4 ≡ 0 → value ≤ c → Stepped doc c at (Step.Refused (record { number = 9; place = at }))
+    pub not_past : value % 4 ≡ 0 → value ≤ c → Stepped doc c at (Err (record { place = at; number = 9 }))
     unfolding Stepped entry_by type_of
     not_past q p = (tt, λ child ms. sym (rw (k5, sym vs) (pass _ _ _ _ ms (eq→eqb q) ∙ fail _ _ _ _ ms (past p))) ∙ of_kind child ms)
 
-    pub out_of_step : (value % 4 ≡ 0 → ⊥) → Stepped doc c at (Step.Refused (record { number = 9; place = at }))
+    pub out_of_step : (value % 4 ≡ 0 → ⊥) → Stepped doc c at (Err (record { place = at; number = 9 }))
     unfolding Stepped entry_by type_of
     out_of_step q = (tt, λ child ms. sym (rw (k5, sym vs) (fail _ _ _ _ ms (unlike q))) ∙ of_kind child ms)
 
-  pub other_entry : 3 ≤ kind → (kind ≡ 3 → ⊥) → (kind ≡ 4 → ⊥) → (kind ≡ 5 → ⊥) → Stepped doc c at (Step.Refused (record { number = 9; place = at }))
+  pub other_entry : 3 ≤ kind → (kind ≡ 3 → ⊥) → (kind ≡ 4 → ⊥) → (kind ≡ 5 → ⊥) → Stepped doc c at (Err (record { place = at; number = 9 }))
   unfolding Stepped
   other_entry a b d e = (tt, λ child ms. sym (large_type doc c at child ms kind (omega arith)) ∙ of_kind child ms)
 
@@ -194,16 +202,21 @@ pub ruleset entry_laws = (plain_entry, string_entry, string_refused, number_entr
 
 -- ---- rule 14
 
-pub taken_body : (o w : ℕ) (ms ns : List ℕ) (free : Bool) → Taken ms ((o - 4) / 4) w free ns → told_mark o free ns ≡ mark_body o w ms
-unfolding mark_body
-taken_body o w ms ns true h =
-    let t : T (clear ms (word_at o) w) = subst (λ (b : Bool). T b) (sym h.0) tt in
-    ap (λ z. done tt z) h.1 ∙ sym (then _ _ ms refl ∙ pass _ _ _ _ ms t)
-taken_body o w ms ns false h =
-    let t : T (clear ms (word_at o) w) → ⊥ = λ q. subst (λ (b : Bool). T b) h.0 q in
-    ap (λ z. halt 14 o z) h.1 ∙ sym (then _ _ ms refl ∙ fail _ _ _ _ ms t)
+-- k words from that of o on are what `after` stands for
+module _ (o w k : ℕ) (ms after : List ℕ) (room : (o - 4) / 4 + w ≤ length ms) (ks : k ≡ w) where
+  pub body_taken : Taken (take k (drop ((o - 4) / 4) ms)) true after → done tt (put_mid ((o - 4) / 4) k ms after) ≡ mark_body o w ms
+  unfolding mark_body
+  body_taken h =
+      let t : T (clear ms (word_at o) w) = T_from_true _ (sym (clear_part ms (word_at o) k w ks room) ∙ h.0) in
+      ap (λ z. done tt z) (put_filled ms (word_at o) k w 1 after ks room h.1) ∙ sym (then _ _ ms refl ∙ pass _ _ _ _ ms t)
 
-pub ruleset mark_laws = (taken_body, rules)
+  pub body_met : Taken (take k (drop ((o - 4) / 4) ms)) false after → halt 14 o (put_mid ((o - 4) / 4) k ms after) ≡ mark_body o w ms
+  unfolding mark_body
+  body_met h =
+      let t : T (clear ms (word_at o) w) → ⊥ = λ q. subst (λ (b : Bool). T b) (sym (clear_part ms (word_at o) k w ks room) ∙ h.0) q in
+      ap (λ z. halt 14 o z) (rw h.1 (put_same ms (word_at o) k)) ∙ sym (then _ _ ms refl ∙ fail _ _ _ _ ms t)
+
+pub ruleset mark_laws = (body_taken, body_met, rules)
 
 -- ---- rules 8, 14 and 11
 
@@ -211,15 +224,15 @@ module _ (doc : List ℕ) (a : Areas) (x : Laid doc a) (o : ℕ) (ms : List ℕ)
   index_is : a.index ≡ index doc
   index_is = x.framed.index_is
 
-  refused : a.index < o + 4 → BodyIs doc o ms ms (Body.Refused (record { number = 8; place = o }))
+  refused : a.index < o + 4 → BodyIs doc o ms ms (Err (record { place = o; number = 8 }))
   unfolding BodyIs container_with
   refused h child = sym (fail _ _ _ _ ms (over (rw index_is at h)))
 
-  pub past_index : a.index < o → BodyIs doc o ms ms (Body.Refused (record { number = 8; place = o }))
+  pub past_index : a.index < o → BodyIs doc o ms ms (Err (record { place = o; number = 8 }))
   past_index h = refused (omega arith)
 
   module _ (l : o ≤ a.index) where
-    pub no_meta : a.index - o < 4 → BodyIs doc o ms ms (Body.Refused (record { number = 8; place = o }))
+    pub no_meta : a.index - o < 4 → BodyIs doc o ms ms (Err (record { place = o; number = 8 }))
     no_meta h = refused (omega arith)
 
     module _ (h : 4 ≤ a.index - o) (kind n : ℕ) (ks : kind ≡ low doc o) (ns : n ≡ high doc o) where
@@ -235,105 +248,129 @@ module _ (doc : List ℕ) (a : Areas) (x : Laid doc a) (o : ℕ) (ms : List ℕ)
       kind_over child =
           by_kind (λ k t. (k ≡ 0 → ⊥) → (k ≡ 1 → ⊥) → container_by doc child o n t ms ≡ halt 8 o ms) (λ p q. absurd (p refl)) (λ p q. absurd (q refl)) (λ p q. refl) (λ k p q. refl)
 
-      pub kind_refused : (kind ≡ 0 → ⊥) → (kind ≡ 1 → ⊥) → BodyIs doc o ms ms (Body.Refused (record { number = 8; place = o }))
+      pub kind_refused : (kind ≡ 0 → ⊥) → (kind ≡ 1 → ⊥) → BodyIs doc o ms ms (Err (record { place = o; number = 8 }))
       unfolding BodyIs
       kind_refused p q child = sym (kind_over child kind p q) ∙ container_by_lem child
 
 pub of_index : (doc : List ℕ) (a : Areas) (o : ℕ) → o ≤ a.index → 4 ≤ a.index - o → o + 4 ≤ a.index
 of_index doc a o l h = omega arith
 
-pub low_of : (doc : List ℕ) (o kind v : ℕ) → kind ≡ low doc o → kind ≡ v → low doc o ≡ v
-low_of doc o kind v e f = sym e ∙ f
+-- either kind: so many KeyEntries, and then n Entries
+unfoldable words_read : List ℕ → (ℕ → Reading (List ℕ) (Unit {0})) → ℕ → ℕ → ℕ → Reading (List ℕ) (Unit {0})
+words_read doc child o keys n = do
+  need (leb (o + 4 + 4 * keys + 4 * n) (index doc)) 8 o
+  mark_body o (1 + keys + n)
+  key_entries doc keys 0 (o + 4)
+  entries doc child o n (o + 4 + 4 * keys)
 
-pub ruleset body_laws = (past_index, no_meta, kind_refused, of_index, low_of, rules)
+words_of : (doc : List ℕ) (child : ℕ → Reading (List ℕ) (Unit {0})) (o keys n : ℕ) (ms : List ℕ) (k : ℕ) → k ≤ 1 → keys ≡ k * n → container_by doc child o n (kind_of k) ms ≡ words_read doc child o keys n ms
+unfolding container_by words_read key_entries ◌>>=◌ follow
+words_of doc child o keys n ms =
+    by_kind (λ k t. k ≤ 1 → keys ≡ k * n → container_by doc child o n t ms ≡ words_read doc child o keys n ms) (λ s e. none e) (λ s e. all e) (λ s e. absurd (omega arith)) (λ k s e. absurd (omega arith))
+  where
+    none : keys ≡ 0 * n → container_by doc child o n k_array ms ≡ words_read doc child o keys n ms
+    none e =
+        let z : keys ≡ 0 = omega arith in
+        let p : o + 4 + 4 * 0 ≡ o + 4 = omega arith in
+        let q : 1 + 0 + n ≡ 1 + n = omega arith in
+        rw (z, p, q) refl
 
-pub array_room : (doc : List ℕ) (a : Areas) (o n : ℕ) (ms : List ℕ) → Laid doc a → 4 ≤ o → words doc ≤ length ms → o + 4 + 4 * n ≤ a.index → (o - 4) / 4 + (1 + n) ≤ length ms
-unfolding words
-array_room doc a o n ms x l m i = let e = x.framed.index_is in omega arith
+    all : keys ≡ 1 * n → container_by doc child o n k_object ms ≡ words_read doc child o keys n ms
+    all e =
+        let z : keys ≡ n = omega arith in
+        let p : o + 4 + 4 * n + 4 * n ≡ o + 4 + 4 * (2 * n) = omega arith in
+        let q : 1 + n + n ≡ 1 + 2 * n = omega arith in
+        rw (z, p, q) refl
 
-pub object_room : (doc : List ℕ) (a : Areas) (o n : ℕ) (ms : List ℕ) → Laid doc a → 4 ≤ o → words doc ≤ length ms → o + 4 + 4 * (2 * n) ≤ a.index → (o - 4) / 4 + (1 + 2 * n) ≤ length ms
-unfolding words
-object_room doc a o n ms x l m i = let e = x.framed.index_is in omega arith
+module _ (doc : List ℕ) (o kind n : ℕ) (ks : kind ≡ low doc o) where
+  pub no_keys : kind ≡ 0 → (low doc o ≤ 1) × (0 ≡ low doc o * n)
+  no_keys z = rw (sym ks, z) (omega arith, omega arith)
 
-module _ (doc : List ℕ) (a : Areas) (x : Laid doc a) (o n : ℕ) (ms : List ℕ) (l : o + 4 ≤ a.index) (ns : n ≡ high doc o) where
-  module _ (k0 : low doc o ≡ 0) where
-    array_by : (child : ℕ → Reading (List ℕ) (Unit {0})) → container_by doc child o n k_array ms ≡ container_with doc o child ms
-    unfolding container_with kind_of
-    array_by child = sym (pass _ _ _ _ ms (le→leb _ _ (rw x.framed.index_is at l)) ∙ rw (k0, sym ns))
+  pub all_keys : kind ≡ 1 → (low doc o ≤ 1) × (n ≡ low doc o * n)
+  all_keys z = rw (sym ks, z) (omega arith, omega arith)
 
-    pub array_refused : a.index < o + 4 + 4 * n → BodyIs doc o ms ms (Body.Refused (record { number = 8; place = o }))
-    unfolding BodyIs container_by
-    array_refused q child = sym (fail _ _ _ _ ms (over (rw x.framed.index_is at q))) ∙ array_by child
+pub ruleset body_laws = (past_index, no_meta, kind_refused, of_index, no_keys, all_keys, rules)
 
-    module _ (q : o + 4 + 4 * n ≤ a.index) (b : Bool) (after : List ℕ) (m : told_mark o b after ≡ mark_body o (1 + n) ms) where
-      pub array_body : b ≡ true → BodyIs doc o ms after (Body.Entries (o + 4) n)
-      unfolding BodyIs container_by
-      array_body e = (rw x.framed.index_is at q, λ child. sym (pass _ _ _ _ ms (le→leb _ _ (rw x.framed.index_is at q)) ∙ then _ _ ms (sym m ∙ ap (λ y. told_mark o y after) e)) ∙ array_by child)
+module _ (doc : List ℕ) (a : Areas) (x : Laid doc a) (o n keys : ℕ) (ms : List ℕ) (l : o + 4 ≤ a.index) (ns : n ≡ high doc o) (small : low doc o ≤ 1) (ks : keys ≡ low doc o * n) where
+  keys_few : keys ≤ n
+  keys_few = go (low doc o) small ks
+    where
+      go : (k : ℕ) → k ≤ 1 → keys ≡ k * n → keys ≤ n
+      go zero s e = omega arith
+      go (suc zero) s e = omega arith
+      go (suc (suc k)) s e = absurd (omega arith)
 
-      pub array_met : b ≡ false → BodyIs doc o ms after (Body.Refused (record { number = 14; place = o }))
-      unfolding BodyIs container_by
-      array_met e child = sym (pass _ _ _ _ ms (le→leb _ _ (rw x.framed.index_is at q)) ∙ stops _ _ ms (sym m ∙ ap (λ y. told_mark o y after) e)) ∙ array_by child
+  pub place_fits : n < 2 ^ 27 → Fits w64 (o + 4 + 4 * keys)
+  place_fits b = let f = keys_few in let c = x.framed.slots_inside in let d = x.framed.short in omega arith
 
-  module _ (k1 : low doc o ≡ 1) where
-    object_by : (child : ℕ → Reading (List ℕ) (Unit {0})) → container_by doc child o n k_object ms ≡ container_with doc o child ms
-    unfolding container_with kind_of
-    object_by child = sym (pass _ _ _ _ ms (le→leb _ _ (rw x.framed.index_is at l)) ∙ rw (k1, sym ns))
+  pub end_fits : n < 2 ^ 27 → Fits w64 (o + 4 + 4 * keys + 4 * n)
+  end_fits b = let f = keys_few in let c = x.framed.slots_inside in let d = x.framed.short in omega arith
 
-    pub object_refused : a.index < o + 4 + 4 * (2 * n) → BodyIs doc o ms ms (Body.Refused (record { number = 8; place = o }))
-    unfolding BodyIs container_by
-    object_refused q child = sym (fail _ _ _ _ ms (over (rw x.framed.index_is at q))) ∙ object_by child
+  read_is : (child : ℕ → Reading (List ℕ) (Unit {0})) → words_read doc child o keys n ms ≡ container_with doc o child ms
+  unfolding container_with
+  read_is child = sym (pass _ _ _ _ ms (le→leb _ _ (rw x.framed.index_is at l)) ∙ (ap (λ m. container_by doc child o m (kind_of (low doc o)) ms) (sym ns) ∙ words_of doc child o keys n ms (low doc o) small ks))
 
-    module _ (q : o + 4 + 4 * (2 * n) ≤ a.index) (b : Bool) (after : List ℕ) (m : told_mark o b after ≡ mark_body o (1 + 2 * n) ms) where
-      pub object_met : b ≡ false → BodyIs doc o ms after (Body.Refused (record { number = 14; place = o }))
-      unfolding BodyIs container_by
-      object_met e child = sym (pass _ _ _ _ ms (le→leb _ _ (rw x.framed.index_is at q)) ∙ stops _ _ ms (sym m ∙ ap (λ y. told_mark o y after) e)) ∙ object_by child
+  pub words_refused : a.index < o + 4 + 4 * keys + 4 * n → BodyIs doc o ms ms (Err (record { place = o; number = 8 }))
+  unfolding BodyIs words_read
+  words_refused q child = sym (fail _ _ _ _ ms (over (rw x.framed.index_is at q))) ∙ read_is child
 
-      module _ (e : b ≡ true) (k : Verdict) (keyed : told k ≡ ask (key_entries doc n 0 (o + 4))) where
-        to_keys : (child : ℕ → Reading (List ℕ) (Unit {0})) → (key_entries doc n 0 (o + 4) >>= λ _. entries doc child o n (o + 4 + 4 * n)) after ≡ container_with doc o child ms
-        unfolding container_by
-        to_keys child = sym (pass _ _ _ _ ms (le→leb _ _ (rw x.framed.index_is at q)) ∙ then _ _ ms (sym m ∙ ap (λ y. told_mark o y after) e)) ∙ object_by child
+  module _ (q : o + 4 + 4 * keys + 4 * n ≤ a.index) where
+    pub words_room : 4 ≤ o → words doc ≤ length ms → (o - 4) / 4 + (1 + keys + n) ≤ length ms
+    unfolding words
+    words_room p m = let e = x.framed.index_is in omega arith
 
-        pub keys_refused : (r : Refusal) → k ≡ Verdict.Refused r → BodyIs doc o ms after (Body.Refused r)
+    pub keys_inside : o + 4 + 4 * keys ≤ a.index
+    keys_inside = omega arith
+
+    module _ (after : List ℕ) where
+      pub words_met : (r : Refusal) → halt r.number r.place after ≡ mark_body o (1 + keys + n) ms → BodyIs doc o ms after (Err r)
+      unfolding BodyIs words_read
+      words_met r m child = sym (pass _ _ _ _ ms (le→leb _ _ (rw x.framed.index_is at q)) ∙ stops _ _ ms (sym m)) ∙ read_is child
+
+      module _ (m : done tt after ≡ mark_body o (1 + keys + n) ms) where
+        to_keys : (child : ℕ → Reading (List ℕ) (Unit {0})) → (key_entries doc keys 0 (o + 4) >>= λ _. entries doc child o n (o + 4 + 4 * keys)) after ≡ container_with doc o child ms
+        unfolding words_read
+        to_keys child = sym (pass _ _ _ _ ms (le→leb _ _ (rw x.framed.index_is at q)) ∙ then _ _ ms (sym m)) ∙ read_is child
+
+        pub keys_refused : (r : Refusal) → refuses r.number r.place ≡ ask (key_entries doc keys 0 (o + 4)) → BodyIs doc o ms after (Err r)
         unfolding BodyIs
-        keys_refused r f child = sym (stops _ _ after (carry_keys doc n 0 (o + 4) after ∙ ap (carry after) (sym keyed ∙ ap told f))) ∙ to_keys child
+        keys_refused r f child = sym (stops _ _ after (carry_keys doc keys 0 (o + 4) after ∙ ap (carry after) (sym f))) ∙ to_keys child
 
-        pub object_body : k ≡ Verdict.Accepted → BodyIs doc o ms after (Body.Entries (o + 4 + 4 * n) n)
+        pub words_body : answers tt ≡ ask (key_entries doc keys 0 (o + 4)) → BodyIs doc o ms after (Ok (record { first = o + 4 + 4 * keys; count = n }))
         unfolding BodyIs
-        object_body f =
+        words_body f =
             let i = x.framed.index_is in
-            (omega arith, λ child. sym (then _ _ after (carry_keys doc n 0 (o + 4) after ∙ ap (carry after) (sym keyed ∙ ap told f))) ∙ to_keys child)
+            (omega arith, λ child. sym (then _ _ after (carry_keys doc keys 0 (o + 4) after ∙ ap (carry after) (sym f))) ∙ to_keys child)
 
-pub ruleset array_laws = (array_refused, array_room, array_body, array_met, rules)
-
-pub ruleset object_laws = (object_refused, object_room, object_met, keys_refused, object_body, rules)
+pub ruleset words_laws = (place_fits, end_fits, words_refused, words_room, keys_inside, words_met, keys_refused, words_body, rules)
 
 -- ---- rule 12, and the walk itself
 
-module _ (doc : List ℕ) (c at below : ℕ) (ms : List ℕ) (s : Step) (x : Stepped doc c at s) where
-  pub pass_ends : s ≡ Step.Pass → done tt ms ≡ entry doc (container below doc) c at ms
+module _ (doc : List ℕ) (c at below : ℕ) (ms : List ℕ) where
+  pub pass_ends : Stepped doc c at (Ok None) → done tt ms ≡ entry doc (container below doc) c at ms
   unfolding Stepped
-  pass_ends e = ap (λ y. on_step y (container below doc) ms) (sym e) ∙ x.1 (container below doc) ms
+  pass_ends x = x.1 (container below doc) ms
 
-  pub child_past : (o : ℕ) → s ≡ Step.Child o → 4 ≤ c → 4 ≤ o
+  pub child_past : (o : ℕ) → Stepped doc c at (Ok (Some o)) → 4 ≤ c → 4 ≤ o
   unfolding Stepped
-  child_past o e h = let p : c < o = rw e at x.0 in omega arith
+  child_past o x h = let p : c < o = x.0 in omega arith
 
-  pub child_ends : (o : ℕ) (r : Outcome (List ℕ) (Unit {0})) → s ≡ Step.Child o → r ≡ container below doc o ms → r ≡ entry doc (container below doc) c at ms
+  pub child_ends : (o : ℕ) (r : Outcome (List ℕ) (Unit {0})) → Stepped doc c at (Ok (Some o)) → r ≡ container below doc o ms → r ≡ entry doc (container below doc) c at ms
   unfolding Stepped
-  child_ends o r e h = h ∙ (ap (λ y. on_step y (container below doc) ms) (sym e) ∙ x.1 (container below doc) ms)
+  child_ends o r x h = h ∙ x.1 (container below doc) ms
 
-  pub step_refused : (r : Refusal) → s ≡ Step.Refused r → halt r.number r.place ms ≡ entry doc (container below doc) c at ms
+  pub step_refused : (r : Refusal) → Stepped doc c at (Err r) → halt r.number r.place ms ≡ entry doc (container below doc) c at ms
   unfolding Stepped
-  step_refused r e = ap (λ y. on_step y (container below doc) ms) (sym e) ∙ x.1 (container below doc) ms
+  step_refused r x = x.1 (container below doc) ms
 
 pub no_level : (doc ms : List ℕ) (levels o : ℕ) → levels ≡ 0 → halt 12 o ms ≡ container levels doc o ms
 unfolding container
 no_level doc ms levels o e = rw e
 
--- the Entries from at on are all that is left of the n from first on, where the marks were ms
-pub record Entered (doc : List ℕ) (a : Areas) (levels o first n : ℕ) (ms : List ℕ) (left at : ℕ) (now : List ℕ) : Type 0 where
-  pub same : entries doc (container (levels - 1) doc) o left at now ≡ entries doc (container (levels - 1) doc) o n first ms
-  pub inside : at + 4 * left ≤ a.index
+-- the Entries from the k-th on are all that is left of the n from first on, where the marks were ms
+pub record Entered (doc : List ℕ) (a : Areas) (levels o first n : ℕ) (ms : List ℕ) (k : ℕ) (now : List ℕ) : Type 0 where
+  pub same : entries doc (container (levels - 1) doc) o (n - k) (first + 4 * k) now ≡ entries doc (container (levels - 1) doc) o n first ms
+  pub inside : first + 4 * n ≤ a.index
   pub long : length now ≡ length ms
 
 container_is : (doc ms : List ℕ) (levels o : ℕ) → (levels ≡ 0 → ⊥) → container_with doc o (container (levels - 1) doc) ms ≡ container levels doc o ms
@@ -345,52 +382,56 @@ entries_suc : (doc : List ℕ) (child : ℕ → Reading (List ℕ) (Unit {0})) (
 unfolding entries
 entries_suc doc child c l at ms = refl
 
-module _ (doc : List ℕ) (a : Areas) (levels o f n : ℕ) (ns : List ℕ) (left at : ℕ) (now : List ℕ) (x : Entered doc a levels o f n ns left at now) (b : 0 < left) (w : Verdict) (after : List ℕ)
-    (h : told_marks w after ≡ entry doc (container (levels - 1) doc) o at now) where
-  one_entry : entries doc (container (levels - 1) doc) o left at now ≡ (entry doc (container (levels - 1) doc) o at >>= λ _. entries doc (container (levels - 1) doc) o (left - 1) (at + 4)) now
-  one_entry = let e : left ≡ suc (left - 1) = omega arith in ap (λ m. entries doc (container (levels - 1) doc) o m at now) e ∙ entries_suc doc (container (levels - 1) doc) o (left - 1) at now
+module _ (doc : List ℕ) (a : Areas) (levels o f n : ℕ) (ns : List ℕ) (k : ℕ) (now : List ℕ) (x : Entered doc a levels o f n ns k now) (b : k < n) (after : List ℕ) where
+  one_entry : entries doc (container (levels - 1) doc) o (n - k) (f + 4 * k) now
+      ≡ (entry doc (container (levels - 1) doc) o (f + 4 * k) >>= λ _. entries doc (container (levels - 1) doc) o (n - (k + 1)) (f + 4 * (k + 1))) now
+  one_entry =
+      let e : n - k ≡ suc (n - (k + 1)) = omega arith in
+      let p : f + 4 * k + 4 ≡ f + 4 * (k + 1) = omega arith in
+      ap (λ m. entries doc (container (levels - 1) doc) o m (f + 4 * k) now) e ∙ rw p at (entries_suc doc (container (levels - 1) doc) o (n - (k + 1)) (f + 4 * k) now)
 
-  pub entered_next : w ≡ Verdict.Accepted → length after ≡ length now → Entered doc a levels o f n ns (left - 1) (at + 4) after
-  entered_next e l =
+  pub entered_next : done tt after ≡ entry doc (container (levels - 1) doc) o (f + 4 * k) now → length after ≡ length now → Entered doc a levels o f n ns (k + 1) after
+  entered_next h l =
       let i = x.inside in let j = x.long in
-      record { same = sym (then _ _ now (sym h ∙ ap (λ y. told_marks y after) e)) ∙ (sym one_entry ∙ x.same); inside = omega arith; long = l ∙ j }
+      record { same = sym (then _ _ now (sym h)) ∙ (sym one_entry ∙ x.same); inside = i; long = l ∙ j }
 
-  refused_there : (r : Refusal) → w ≡ Verdict.Refused r → halt r.number r.place after ≡ entries doc (container (levels - 1) doc) o n f ns
-  refused_there r e = sym (stops _ _ now (sym h ∙ ap (λ y. told_marks y after) e)) ∙ (sym one_entry ∙ x.same)
+  refused_there : (r : Refusal) → halt r.number r.place after ≡ entry doc (container (levels - 1) doc) o (f + 4 * k) now → halt r.number r.place after ≡ entries doc (container (levels - 1) doc) o n f ns
+  refused_there r h = sym (stops _ _ now (sym h)) ∙ (sym one_entry ∙ x.same)
 
-module _ (doc : List ℕ) (a : Areas) (levels o : ℕ) (ms ns : List ℕ) (some : levels ≡ 0 → ⊥) (b : Body) (h : BodyIs doc o ms ns b) where
-  pub body_refused : (r : Refusal) → b ≡ Body.Refused r → halt r.number r.place ns ≡ container levels doc o ms
+module _ (doc : List ℕ) (a : Areas) (levels o : ℕ) (ms ns : List ℕ) (some : levels ≡ 0 → ⊥) where
+  pub body_refused : (r : Refusal) → BodyIs doc o ms ns (Err r) → halt r.number r.place ns ≡ container levels doc o ms
   unfolding BodyIs
-  body_refused r e = (rw e at h) (container (levels - 1) doc) ∙ container_is doc ms levels o some
+  body_refused r h = h (container (levels - 1) doc) ∙ container_is doc ms levels o some
 
-  module _ (f n : ℕ) (e : b ≡ Body.Entries f n) where
-    whole : entries doc (container (levels - 1) doc) o n f ns ≡ container levels doc o ms
+  module _ (b : Entries) (h : BodyIs doc o ms ns (Ok b)) where
+    whole : entries doc (container (levels - 1) doc) o b.count b.first ns ≡ container levels doc o ms
     unfolding BodyIs
-    whole = let g : BodyIs doc o ms ns (Body.Entries f n) = rw e at h in g.1 (container (levels - 1) doc) ∙ container_is doc ms levels o some
+    whole = h.1 (container (levels - 1) doc) ∙ container_is doc ms levels o some
 
-    pub entered_first : Laid doc a → Entered doc a levels o f n ns n f ns
+    pub entered_first : Laid doc a → Entered doc a levels o b.first b.count ns 0 ns
     unfolding BodyIs
     entered_first x =
-        let g : BodyIs doc o ms ns (Body.Entries f n) = rw e at h in
         let i = x.framed.index_is in
-        let j = g.0 in
-        record { same = refl; inside = omega arith; long = refl }
+        let j = h.0 in
+        let p : b.first + 4 * 0 ≡ b.first = omega arith in
+        let q : b.count - 0 ≡ b.count = omega arith in
+        record { same = rw (p, q); inside = omega arith; long = refl }
 
-    module _ (left at : ℕ) (now : List ℕ) (x : Entered doc a levels o f n ns left at now) where
-      pub entry_refused : 0 < left → (w : Verdict) (after : List ℕ) → told_marks w after ≡ entry doc (container (levels - 1) doc) o at now → (r : Refusal) → w ≡ Verdict.Refused r
+    module _ (k : ℕ) (now : List ℕ) (x : Entered doc a levels o b.first b.count ns k now) where
+      pub entry_refused : k < b.count → (after : List ℕ) (r : Refusal) → halt r.number r.place after ≡ entry doc (container (levels - 1) doc) o (b.first + 4 * k) now
           → halt r.number r.place after ≡ container levels doc o ms
-      entry_refused c w after k r q = refused_there doc a levels o f n ns left at now x c w after k r q ∙ whole
+      entry_refused c after r q = refused_there doc a levels o b.first b.count ns k now x c after r q ∙ whole
 
-      pub entered_done : left ≤ 0 → done tt now ≡ container levels doc o ms
+      pub entered_done : b.count ≤ k → done tt now ≡ container levels doc o ms
       unfolding entries
-      entered_done k = let z : left ≡ 0 = omega arith in (rw z at x.same) ∙ whole
+      entered_done c = let z : b.count - k ≡ 0 = omega arith in (rw z at x.same) ∙ whole
 
-pub still_room : (doc : List ℕ) (a : Areas) (levels o f n : ℕ) (ms ns : List ℕ) (left at : ℕ) (now : List ℕ) → Entered doc a levels o f n ns left at now → length ns ≡ length ms → words doc ≤ length ms
+pub still_room : (doc : List ℕ) (a : Areas) (levels o f n : ℕ) (ms ns : List ℕ) (k : ℕ) (now : List ℕ) → Entered doc a levels o f n ns k now → length ns ≡ length ms → words doc ≤ length ms
     → words doc ≤ length now
-still_room doc a levels o f n ms ns left at now x e h = let l = x.long in omega arith
+still_room doc a levels o f n ms ns k now x e h = let l = x.long in omega arith
 
-pub entered_inside : (doc : List ℕ) (a : Areas) (levels o f n : ℕ) (ns : List ℕ) (left at : ℕ) (now : List ℕ) → Entered doc a levels o f n ns left at now → 0 < left → at + 4 ≤ a.index
-entered_inside doc a levels o f n ns left at now x b = let i = x.inside in omega arith
+pub entered_inside : (doc : List ℕ) (a : Areas) (levels o f n : ℕ) (ns : List ℕ) (k : ℕ) (now : List ℕ) → Entered doc a levels o f n ns k now → k < n → f + 4 * k + 4 ≤ a.index
+entered_inside doc a levels o f n ns k now x b = let i = x.inside in omega arith
 
 pub ruleset walk_laws = (pass_ends, child_past, child_ends, step_refused, no_level, body_refused, entered_first, entered_next, entry_refused, entered_done, still_room, entered_inside, rules)
 
@@ -406,25 +447,25 @@ module _ (doc : List ℕ) (a : Areas) (x : Laid doc a) (n : ℕ) (ms : List ℕ)
     unfolding scalar
     scalar_refused h = sym (pass _ _ _ _ ms (eq→eqb (sym ns ∙ one)) ∙ fail _ _ _ _ ms (over (rw x.framed.index_is at h)))
 
-    module _ (fits : 12 ≤ a.index) (b : Bool) (after : List ℕ) (m : told_mark 4 b after ≡ mark_body 4 2 ms) where
-      pub scalar_met : b ≡ false → halt 14 4 after ≡ scalar doc ms
+    module _ (fits : 12 ≤ a.index) (after : List ℕ) where
+      pub scalar_met : (r : Refusal) → halt r.number r.place after ≡ mark_body 4 2 ms → halt r.number r.place after ≡ scalar doc ms
       unfolding scalar
-      scalar_met e = sym (pass _ _ _ _ ms (eq→eqb (sym ns ∙ one)) ∙ (pass _ _ _ _ ms (le→leb _ _ (rw x.framed.index_is at fits)) ∙ stops _ _ ms (sym m ∙ ap (λ y. told_mark 4 y after) e)))
+      scalar_met r m = sym (pass _ _ _ _ ms (eq→eqb (sym ns ∙ one)) ∙ (pass _ _ _ _ ms (le→leb _ _ (rw x.framed.index_is at fits)) ∙ stops _ _ ms (sym m)))
 
-      module _ (e : b ≡ true) (s : Step) (h : Stepped doc 4 8 s) where
-        to_entry : on_step s (λ o. refuse 9 8) after ≡ scalar doc ms
+      module _ (m : done tt after ≡ mark_body 4 2 ms) where
+        to_entry : (s : Result (Option ℕ) Refusal) → Stepped doc 4 8 s → on_step s (λ o. refuse 9 8) after ≡ scalar doc ms
         unfolding scalar Stepped
-        to_entry =
-            h.1 (λ o. refuse 9 8) after ∙ sym (pass _ _ _ _ ms (eq→eqb (sym ns ∙ one)) ∙ (pass _ _ _ _ ms (le→leb _ _ (rw x.framed.index_is at fits)) ∙ then _ _ ms (sym m ∙ ap (λ y. told_mark 4 y after) e)))
+        to_entry s h =
+            h.1 (λ o. refuse 9 8) after ∙ sym (pass _ _ _ _ ms (eq→eqb (sym ns ∙ one)) ∙ (pass _ _ _ _ ms (le→leb _ _ (rw x.framed.index_is at fits)) ∙ then _ _ ms (sym m)))
 
-        pub scalar_ends : s ≡ Step.Pass → done tt after ≡ scalar doc ms
-        scalar_ends f = ap (λ y. on_step y (λ o. refuse 9 8) after) (sym f) ∙ to_entry
+        pub scalar_ends : Stepped doc 4 8 (Ok None) → done tt after ≡ scalar doc ms
+        scalar_ends h = to_entry (Ok None) h
 
-        pub scalar_child : (o : ℕ) → s ≡ Step.Child o → halt 9 8 after ≡ scalar doc ms
-        scalar_child o f = ap (λ y. on_step y (λ o. refuse 9 8) after) (sym f) ∙ to_entry
+        pub scalar_child : (o : ℕ) → Stepped doc 4 8 (Ok (Some o)) → halt 9 8 after ≡ scalar doc ms
+        scalar_child o h = to_entry (Ok (Some o)) h
 
-        pub scalar_step : (r : Refusal) → s ≡ Step.Refused r → halt r.number r.place after ≡ scalar doc ms
-        scalar_step r f = ap (λ y. on_step y (λ o. refuse 9 8) after) (sym f) ∙ to_entry
+        pub scalar_step : (r : Refusal) → Stepped doc 4 8 (Err r) → halt r.number r.place after ≡ scalar doc ms
+        scalar_step r h = to_entry (Err r) h
 
 pub scalar_room : (doc : List ℕ) (a : Areas) (ms : List ℕ) → Laid doc a → words doc ≤ length ms → 12 ≤ a.index → (4 - 4) / 4 + 2 ≤ length ms
 unfolding words

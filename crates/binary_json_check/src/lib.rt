@@ -10,77 +10,57 @@ ghost use Rattle.std.specs.Prelude.{◌≡◌, length, ◌-◌, ◌/◌, ◌≤�
 ghost use Rattle.binary_json_check.specs.Told.{told_marks};
 ghost use Rattle.binary_json_check.specs.Walks.{walk_all};
 ghost use Rattle.binary_json_rules.specs.Verdict.{verdict};
-ghost use Rattle.binary_json_areas.specs.Laid.{Laid, Indexes};
+ghost use Rattle.binary_json_areas.specs.Laid.{Indexes};
 
-use binary_json_areas::areas::{Areas, Header, Walk};
-use json_model::{Refusal, Verdict};
+use binary_json_areas::areas::{Areas, read_header};
+use binary_json_areas::document::Document;
+use binary_json_areas::header::Header;
+use json_model::{Verdict, refuse};
 
 // The walk over the tree's words, and rule 13.
-fn walk_all(doc: &[u8], a: Areas, words: usize, marks: &mut [u8]) -> Verdict
-    requires { Laid doc.now a × (words ≡ (a.index - 4) / 4) × (words ≤ length marks.old) }
-    ensures { told_marks result marks.new ≡ walk_all doc.now marks.old }
+#[tactic(auto, using(crate::proofs::Checks::all_laws))]
+fn walk_all(d: &Document<'_>, words: usize, marks: &mut [u8]) -> Verdict
+    requires { (words ≡ (d.now.areas.index - 4) / 4) × (words ≤ length marks.old) }
+    ensures { told_marks result marks.new ≡ walk_all d.now.bytes.now marks.old }
 {
-    let w = walk::walk_root(doc, a, marks);
-    match w {
-        Verdict::Refused(r) => Verdict::Refused(r),
-        Verdict::Accepted => {
-            let k = marks::first_unmarked(marks, words);
-            if k == words {
-                return Verdict::Accepted;
-            }
-            Verdict::Refused(Refusal {
-                number: 13,
-                place: 4 + 4 * k,
-            })
-        }
+    walk::walk_root(d, marks)?;
+    match marks::first_unmarked(&marks[..words]) {
+        None => Ok(()),
+        Some(k) => refuse(13, 4 + 4 * k),
     }
 }
 
 // The rules from 7 on, of a document whose string index is good.
-fn check_tree(doc: &[u8], a: Areas, marks: &mut [u8]) -> Verdict
-    requires { Indexes doc.now a }
-    ensures { told_marks result marks.new ≡ verdict doc.now marks.old }
+#[tactic(auto, using(crate::proofs::Checks::tree_laws))]
+fn check_tree(d: &Document<'_>, marks: &mut [u8]) -> Verdict
+    requires { Indexes d.now.bytes.now d.now.areas }
+    ensures { told_marks result marks.new ≡ verdict d.now.bytes.now marks.old }
 {
-    let numbers = a.numbers;
-    let step = (doc.len() - numbers) % 8;
+    let Areas { index, numbers, .. } = d.areas;
+    let step = (d.bytes.len() - numbers) % 8;
     if step != 0 {
-        return Verdict::Refused(Refusal {
-            number: 7,
-            place: numbers,
-        });
+        return refuse(7, numbers);
     }
-    let words = (a.index - 4) / 4;
+    let words = (index - 4) / 4;
     if marks.len() < words {
-        return Verdict::Refused(Refusal {
-            number: 15,
-            place: a.index,
-        });
+        return refuse(15, index);
     }
-    marks::set_marks(marks, 0, words, 0);
-    walk_all(doc, a, words, marks)
+    marks::set_marks(&mut marks[..words], 0);
+    walk_all(d, words, marks)
 }
 
 // The check: refusals 1 to 15 with their places, in one pass.
+#[tactic(auto, using(crate::proofs::Checks::check_laws))]
 pub fn check(doc: &[u8], marks: &mut [u8]) -> Verdict
     ensures { told_marks result marks.new ≡ verdict doc.now marks.old }
 {
-    let h = binary_json_areas::areas::read_header(doc);
-    match h {
-        Header::Refused(r) => Verdict::Refused(r),
-        Header::At { index, count } => {
-            let s = strings::read_slots(doc, index, count);
-            match s {
-                Walk::Refused(r) => Verdict::Refused(r),
-                Walk::End(numbers) => check_tree(
-                    doc,
-                    Areas {
-                        index,
-                        count,
-                        numbers,
-                    },
-                    marks,
-                ),
-            }
-        }
-    }
+    let header = read_header(doc)?;
+    let numbers = strings::read_slots(&header)?;
+    let Header { index, count, .. } = header;
+    let areas = Areas {
+        index,
+        count,
+        numbers,
+    };
+    check_tree(&Document { bytes: doc, areas }, marks)
 }

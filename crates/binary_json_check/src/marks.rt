@@ -1,207 +1,151 @@
-// The lent marks, one byte for each word of the tree. A body is taken: its marks are tested, and set if none of them is.
-// Most bodies are short: for up to sixteen words two loads and two stores do, from both ends, which may overlap. Longer
-// ones are tested eight at a step, and set by a loop that compiles to wide stores.
-ghost use Rattle.std.specs.Prelude.{◌≡◌, ◌+◌, ◌*◌, ◌≤◌, ◌<◌, length};
-ghost use Rattle.binary_json_rules.specs.Marks.{clear, fill, unmarked};
-ghost use Rattle.binary_json_check.specs.Taken.{Taken};
+// The lent marks, one byte for each word of the tree. A body is the part of them that stands for its words. It is
+// taken: its marks are tested, and set if none of them is. Most bodies are short: for up to sixteen words two loads and
+// two stores do, from both ends, which may overlap. Longer ones are tested eight at a step, and set by a loop that
+// compiles to `memset`; std's `fill` would clone mark by mark.
+ghost use Rattle.std.specs.Prelude.{◌≡◌, ◌*◌, ◌≤◌, ◌<◌, length};
+ghost use Rattle.binary_json_rules.specs.Marks.{clear, fill};
+ghost use Rattle.binary_json_check.specs.Taken.{Taken, Found};
 
-// Whether n marks from k on are 0, by s of them from either end.
-fn ends_clear(marks: &[u8], k: usize, n: usize, s: usize) -> bool
-    requires { (k + n ≤ length marks.now) × (s ≤ 8) × (s ≤ n) × (n ≤ 2 * s) }
-    ensures { result ≡ clear marks.now k n }
+// Whether all marks of a body are 0, by S of them from either end.
+#[tactic(auto, using(crate::proofs::MarkLaws::ends_laws))]
+fn ends_clear<const S: usize>(body: &[u8]) -> bool
+    requires { (S ≤ 8) × (S ≤ length body.now) × (length body.now ≤ 2 * S) }
+    ensures { result ≡ clear body.now 0 (length body.now) }
 {
-    let first = word::integer(marks, k, s);
+    let first = word::integer(body, 0, S);
     if first != 0 {
         return false;
     }
-    let last = word::integer(marks, k + n - s, s);
-    if last != 0 {
-        return false;
+    let last = word::integer(body, body.len() - S, S);
+    last == 0
+}
+
+// Sets the first N marks: one store, wherever this is inlined and N is small.
+#[tactic(auto, using(crate::proofs::MarkLaws::loop_laws))]
+fn set<const N: usize>(part: &mut [u8])
+    requires { N ≤ length part.old }
+    ensures { part.new ≡ fill part.old 0 N 1 }
+{
+    for i in 0..N {
+        part[i] = 1;
     }
-    true
 }
 
-// Sets two, four and eight marks from k on, written out, so that they are one store wherever this is inlined.
-fn set_two(marks: &mut [u8], k: usize)
-    requires { k + 2 ≤ length marks.old }
-    ensures { marks.new ≡ fill marks.old k 2 1 }
+// Takes a body of S to 2 * S words.
+#[tactic(auto, using(crate::proofs::MarkLaws::take_laws))]
+fn take_ends<const S: usize>(body: &mut [u8]) -> bool
+    requires { (S ≤ 8) × (S ≤ length body.old) × (length body.old ≤ 2 * S) }
+    ensures { Taken body.old result body.new }
 {
-    marks[k] = 1;
-    marks[k + 1] = 1;
-}
-
-fn set_four(marks: &mut [u8], k: usize)
-    requires { k + 4 ≤ length marks.old }
-    ensures { marks.new ≡ fill marks.old k 4 1 }
-{
-    set_two(marks, k);
-    set_two(marks, k + 2);
-}
-
-fn set_eight(marks: &mut [u8], k: usize)
-    requires { k + 8 ≤ length marks.old }
-    ensures { marks.new ≡ fill marks.old k 8 1 }
-{
-    set_four(marks, k);
-    set_four(marks, k + 4);
-}
-
-// A body of two to four words, of four to eight, and of eight to sixteen.
-fn take_two(marks: &mut [u8], k: usize, n: usize) -> bool
-    requires { (k + n ≤ length marks.old) × (2 ≤ n) × (n ≤ 4) }
-    ensures { Taken marks.old k n result marks.new }
-{
-    let free = ends_clear(marks, k, n, 2);
+    let free = ends_clear::<S>(body);
     if free {
-        set_two(marks, k);
-        set_two(marks, k + n - 2);
+        set::<S>(body);
+        let last = body.len() - S;
+        set::<S>(&mut body[last..]);
         return true;
     }
     false
 }
 
-fn take_four(marks: &mut [u8], k: usize, n: usize) -> bool
-    requires { (k + n ≤ length marks.old) × (4 ≤ n) × (n ≤ 8) }
-    ensures { Taken marks.old k n result marks.new }
+// Whether all marks of a body are 0: eight at a step, and then the last eight.
+#[tactic(auto, using(crate::proofs::MarkLaws::many_laws))]
+fn many_clear(body: &[u8]) -> bool
+    requires { 8 ≤ length body.now }
+    ensures { result ≡ clear body.now 0 (length body.now) }
 {
-    let free = ends_clear(marks, k, n, 4);
-    if free {
-        set_four(marks, k);
-        set_four(marks, k + n - 4);
-        return true;
-    }
-    false
-}
-
-fn take_eight(marks: &mut [u8], k: usize, n: usize) -> bool
-    requires { (k + n ≤ length marks.old) × (8 ≤ n) × (n ≤ 16) }
-    ensures { Taken marks.old k n result marks.new }
-{
-    let free = ends_clear(marks, k, n, 8);
-    if free {
-        set_eight(marks, k);
-        set_eight(marks, k + n - 8);
-        return true;
-    }
-    false
-}
-
-// Whether n marks from k on are 0: eight at a step, and then the last eight.
-fn many_clear(marks: &[u8], k: usize, n: usize) -> bool
-    requires { (k + n ≤ length marks.now) × (8 ≤ n) }
-    ensures { result ≡ clear marks.now k n }
-{
-    let mut at = k;
-    let mut left = n;
-    while 8 <= left {
-        let eight = word::integer(marks, at, 8);
+    for i in 0..body.len() / 8 {
+        let eight = word::integer(body, 8 * i, 8);
         if eight != 0 {
             return false;
         }
-        at += 8;
-        left -= 8;
     }
-    let last = word::integer(marks, k + n - 8, 8);
-    if last != 0 {
-        return false;
-    }
-    true
+    let last = word::integer(body, body.len() - 8, 8);
+    last == 0
 }
 
-// Sets n marks from k on to a value.
-pub(crate) fn set_marks(marks: &mut [u8], k: usize, n: usize, value: u8)
-    requires { k + n ≤ length marks.old }
-    ensures { marks.new ≡ fill marks.old k n value }
+// Sets all marks of a part to a value.
+#[tactic(auto, using(crate::proofs::MarkLaws::loop_laws))]
+pub(crate) fn set_marks(part: &mut [u8], value: u8)
+    ensures { part.new ≡ fill part.old 0 (length part.old) value }
 {
-    let mut at = k;
-    let mut left = n;
-    while 0 < left {
-        marks[at] = value;
-        at += 1;
-        left -= 1;
+    for mark in part.iter_mut() {
+        *mark = value;
     }
 }
 
 // A body of more than sixteen words, and one of one word.
-fn take_many(marks: &mut [u8], k: usize, n: usize) -> bool
-    requires { (k + n ≤ length marks.old) × (8 ≤ n) }
-    ensures { Taken marks.old k n result marks.new }
+#[tactic(auto, using(crate::proofs::MarkLaws::take_laws))]
+fn take_many(body: &mut [u8]) -> bool
+    requires { 8 ≤ length body.old }
+    ensures { Taken body.old result body.new }
 {
-    let free = many_clear(marks, k, n);
+    let free = many_clear(body);
     if free {
-        set_marks(marks, k, n, 1);
+        set_marks(body, 1);
         return true;
     }
     false
 }
 
-fn take_one(marks: &mut [u8], k: usize) -> bool
-    requires { k + 1 ≤ length marks.old }
-    ensures { Taken marks.old k 1 result marks.new }
+#[tactic(auto, using(crate::proofs::MarkLaws::take_laws))]
+fn take_one(body: &mut [u8]) -> bool
+    requires { length body.old ≡ 1 }
+    ensures { Taken body.old result body.new }
 {
-    let mark = marks[k];
+    let mark = body[0];
     if mark != 0 {
         return false;
     }
-    marks[k] = 1;
+    body[0] = 1;
     true
 }
 
-// Takes the body whose n words are those from k on: whether none of them was marked, and then they are.
-pub(crate) fn take(marks: &mut [u8], k: usize, n: usize) -> bool
-    requires { (k + n ≤ length marks.old) × (0 < n) }
-    ensures { Taken marks.old k n result marks.new }
+// Takes a body: whether none of its words was marked, and then they are.
+#[tactic(auto, using(crate::proofs::MarkLaws::take_laws))]
+pub(crate) fn take(body: &mut [u8]) -> bool
+    requires { 0 < length body.old }
+    ensures { Taken body.old result body.new }
 {
+    let n = body.len();
     if 16 < n {
-        return take_many(marks, k, n);
+        return take_many(body);
     }
     if 8 < n {
-        return take_eight(marks, k, n);
+        return take_ends::<8>(body);
     }
     if 4 < n {
-        return take_four(marks, k, n);
+        return take_ends::<4>(body);
     }
     if 1 < n {
-        return take_two(marks, k, n);
+        return take_ends::<2>(body);
     }
-    take_one(marks, k)
+    take_one(body)
 }
 
 // What eight marks read together that are 1 each.
 const EIGHT_MARKED: u64 = 0x0101010101010101;
 
-// The first of n words whose mark is 0, or n.
-pub(crate) fn first_unmarked(marks: &[u8], n: usize) -> usize
-    requires { n ≤ length marks.now }
-    ensures { result ≡ unmarked marks.now 0 n }
+// The first word whose mark is 0: eight marks at a step, where `position` takes one.
+#[tactic(auto, using(crate::proofs::MarkLaws::loop_laws))]
+pub(crate) fn first_unmarked(words: &[u8]) -> Option<usize>
+    ensures { Found words.now 0 result }
 {
-    let mut at = 0;
-    let mut left = n;
-    while 8 <= left {
-        let x = word::integer(marks, at, 8);
+    let n = words.len();
+    for i in 0..n / 8 {
+        let x = word::integer(words, 8 * i, 8);
         if x != EIGHT_MARKED {
-            return first_unmarked_by_one(marks, at, left);
+            return first_unmarked_by_one(words, 8 * i);
         }
-        at += 8;
-        left -= 8;
     }
-    first_unmarked_by_one(marks, at, left)
+    first_unmarked_by_one(words, 8 * (n / 8))
 }
 
-// The same of the n words from k on, one mark at a step.
-fn first_unmarked_by_one(marks: &[u8], k: usize, n: usize) -> usize
-    requires { k + n ≤ length marks.now }
-    ensures { result ≡ unmarked marks.now k n }
+// The same of the words from k on, one mark at a step.
+#[tactic(auto, using(crate::proofs::MarkLaws::loop_laws))]
+fn first_unmarked_by_one(words: &[u8], k: usize) -> Option<usize>
+    requires { k ≤ length words.now }
+    ensures { Found words.now k result }
 {
-    let mut at = k;
-    let mut left = n;
-    while 0 < left {
-        let x = marks[at];
-        if x == 0 {
-            return at;
-        }
-        at += 1;
-        left -= 1;
-    }
-    at
+    let found = words[k..].iter().position(|mark| *mark == 0)?;
+    Some(k + found)
 }

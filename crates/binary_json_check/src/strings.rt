@@ -2,107 +2,76 @@
 ghost use Rattle.std.specs.Prelude.{◌≡◌, ◌-◌, ◌≤◌, ◌<◌, length};
 ghost use Rattle.json_model.specs.Bytes.{part};
 ghost use Rattle.binary_json_rules.specs.Areas.{text};
-ghost use Rattle.binary_json_areas.specs.Laid.{Framed};
 ghost use Rattle.binary_json_check.specs.Slots.{Texts, Rule5, SlotKeeps, SlotsRead};
 
-use binary_json_areas::areas::Walk;
-use json_model::{Order, Refusal};
+use binary_json_areas::areas::fields_at;
+use binary_json_areas::header::Header;
+use json_model::{Refusal, refuse};
+use std::cmp::Ordering;
+use word::Fields;
 
-// A text from start up to end, without its closing byte.
-pub(crate) fn content(doc: &[u8], start: usize, end: usize) -> &[u8]
+// A text from start up to end, without its closing byte. It takes no `Span`, which would be made for it alone.
+fn content(doc: &[u8], start: usize, end: usize) -> &[u8]
     requires { (start < end) × (end ≤ length doc.now) }
     ensures { result.now ≡ part doc.now start (end - 1 - start) }
 {
     &doc[start..end - 1]
 }
 
-// Rule 5 at slot k, whose text starts at `start`: where the text ends.
-fn slot_end(doc: &[u8], index: usize, count: usize, k: usize, start: usize) -> Walk
-    requires framed { Framed doc.now index count }
-    requires k_lt_count { (k < count) × (start ≡ text doc.now k) }
-    ensures { Rule5 doc.now k result }
+// Rule 5 at slot k, whose text starts at `start`: where the text ends. The tests stand one by one: joined by `||` they
+// take an instruction more at each slot.
+#[tactic(auto, using(crate::proofs::Slots::slot_end_laws))]
+fn slot_end(header: &Header<'_>, k: usize, start: usize) -> Result<usize, Refusal>
+    requires { (k < header.now.count) × (start ≡ text header.now.bytes.now k) }
+    ensures { Rule5 header.now.bytes.now k result }
 {
-    let at = index + 4 + 4 * k;
-    let f = binary_json_areas::areas::fields_at(doc, at);
-    let low = f.low;
-    let end = f.high;
+    let doc = header.bytes;
+    let at = header.index + 4 + 4 * k;
+    let Fields { low, high: end } = fields_at(doc, at);
     if low != 0 {
-        return Walk::Refused(Refusal {
-            number: 5,
-            place: at,
-        });
+        return refuse(5, at);
     }
     if end <= start {
-        return Walk::Refused(Refusal {
-            number: 5,
-            place: at,
-        });
+        return refuse(5, at);
     }
     if doc.len() < end {
-        return Walk::Refused(Refusal {
-            number: 5,
-            place: at,
-        });
+        return refuse(5, at);
     }
     let last = doc[end - 1];
     if last != 0 {
-        return Walk::Refused(Refusal {
-            number: 5,
-            place: at,
-        });
+        return refuse(5, at);
     }
-    Walk::End(end)
+    Ok(end)
 }
 
 // Rules 5 and 6 at slot k: where its text ends.
-fn read_slot(doc: &[u8], index: usize, count: usize, k: usize, before: usize, start: usize) -> Walk
-    requires framed { Framed doc.now index count }
-    requires k_lt_count { (k < count) × Texts doc.now k before start }
-    ensures { SlotKeeps doc.now k result }
+#[tactic(auto, using(crate::proofs::Slots::read_slot_laws))]
+fn read_slot(header: &Header<'_>, k: usize, before: usize, start: usize) -> Result<usize, Refusal>
+    requires { (k < header.now.count) × Texts header.now.bytes.now k before start }
+    ensures { SlotKeeps header.now.bytes.now k result }
 {
-    let w = slot_end(doc, index, count, k, start);
-    match w {
-        Walk::Refused(r) => Walk::Refused(r),
-        Walk::End(end) => {
-            if k == 0 {
-                return Walk::End(end);
-            }
-            let o = text::compare(content(doc, before, start), content(doc, start, end));
-            match o {
-                Order::Below => Walk::End(end),
-                Order::Equal => Walk::Refused(Refusal {
-                    number: 6,
-                    place: index + 4 + 4 * k,
-                }),
-                Order::Above => Walk::Refused(Refusal {
-                    number: 6,
-                    place: index + 4 + 4 * k,
-                }),
-            }
-        }
+    let doc = header.bytes;
+    let end = slot_end(header, k, start)?;
+    if k == 0 {
+        return Ok(end);
+    }
+    match text::compare(content(doc, before, start), content(doc, start, end)) {
+        Ordering::Less => Ok(end),
+        Ordering::Equal | Ordering::Greater => refuse(6, header.index + 4 + 4 * k),
     }
 }
 
 // Rules 5 and 6 over all slots: where the numbers start.
-pub(crate) fn read_slots(doc: &[u8], index: usize, count: usize) -> Walk
-    requires { Framed doc.now index count }
-    ensures { SlotsRead doc.now result }
+#[tactic(auto, using(crate::proofs::Slots::read_slots_laws))]
+pub(crate) fn read_slots(header: &Header<'_>) -> Result<usize, Refusal>
+    ensures { SlotsRead header.now.bytes.now result }
 {
-    let mut k = 0;
-    let mut start = index + 4 + 4 * count;
+    let mut start = header.index + 4 + 4 * header.count;
     let mut before = start;
-    while k < count {
-        let w = read_slot(doc, index, count, k, before, start);
-        match w {
-            Walk::Refused(r) => {
-                return Walk::Refused(r);
-            }
-            Walk::End(end) => {
-                before = start;
-                start = end;
-            }
-        }
-        k += 1;
+    for k in 0..header.count {
+        let end = read_slot(header, k, before, start)?;
+        before = start;
+        start = end;
     }
-    Walk::End(start)
+    Ok(start)
 }

@@ -1,1 +1,2 @@
 pub mod Metas
+pub mod Objects

@@ -16,7 +16,7 @@ use Rattle.json_model.specs.Number.{finite, magnitude, float_tree}
 use Rattle.json_model.specs.Reading.{Outcome, halt, done, Reading, Asked, ask, answers, refuses, follow, ◌>>=◌, need, verdict_of}
 use Rattle.json_model.specs.Texts.{by_numbers, compare_texts}
 use Rattle.json_model.specs.Tree.{Tree, null, bool, num, str, arr, obj, Trees, none, more, end, member}
-use Rattle.json_model.specs.declared.Order.TheVariants.{Below}
+use Rattle.std.specs.declared.cmp.Ordering.TheVariants.{Less}
 use Rattle.json_model.proofs.Reading.{done_answer, stops, pass, fail}
 use Rattle.binary_json_rules.specs.Areas.{index, count, slot, text, content, numbers, kind_of, type_of}
 use Rattle.binary_json_rules.specs.Verdict.{header, ascends, slot_rules, slots, slot_named, number_named, key_entries, entry_by, entry, entries, mark_body, container_by, container, scalar, root_by, lent, all_marked, check, verdict}
@@ -530,7 +530,7 @@ mixed_means = record {
   index_inside = leb→le _ _ tt;
   slots_inside = leb→le _ _ tt;
   slots_good = each (SlotGood mixed) 2 (record { clear = refl; forward = ltb→lt _ _ tt; inside = leb→le _ _ tt; closed = refl }, (record { clear = refl; forward = ltb→lt _ _ tt; inside = leb→le _ _ tt; closed = refl }, tt));
-  ascending = λ k b. each (λ i. compare_texts (content mixed i) (content mixed (suc i)) ≡ Below) 1 (refl, tt) k (omega arith);
+  ascending = λ k b. each (λ i. compare_texts (content mixed i) (content mixed (suc i)) ≡ Less) 1 (refl, tt) k (omega arith);
   numbers_step = refl;
   root = mixed_root;
   placed = ((refl, ltb→lt _ _ tt, (tt, (tt, (tt, (tt, (tt, tt)))))), ((refl, ltb→lt _ _ tt, ((refl, ltb→lt _ _ tt, tt), tt)), tt));
@@ -556,7 +556,7 @@ null_means = record {
   index_inside = leb→le _ _ tt;
   slots_inside = leb→le _ _ tt;
   slots_good = each (SlotGood null_alone) 0 tt;
-  ascending = λ k b. each (λ i. compare_texts (content null_alone i) (content null_alone (suc i)) ≡ Below) 0 tt k (omega arith);
+  ascending = λ k b. each (λ i. compare_texts (content null_alone i) (content null_alone (suc i)) ≡ Less) 0 tt k (omega arith);
   numbers_step = refl;
   root = (record { kind_is = refl; size_is = refl; inside = leb→le _ _ tt }, refl);
   placed = tt;

@@ -2,12 +2,12 @@
 -- + (high-low)/2, halves dropped; equal stops; item smaller sets low past it, otherwise high to it. Each turn counts as
 -- one comparison. A miss keeps its position, low.
 use Rattle.std.specs.Prelude.{ℕ, zero, suc, ◌+◌, ◌-◌, ◌/◌, Bool, true, false, ltb}
-use Rattle.json_model.specs.declared.Order.{Order}
-use Rattle.json_model.specs.declared.Order.TheVariants.{Below, Equal, Above}
+use Rattle.std.specs.declared.cmp.Ordering.{Ordering}
+use Rattle.std.specs.declared.cmp.Ordering.TheVariants.{Less, Equal, Greater}
 
 -- an item: how it compares with what is sought, or that it cannot be read
 pub data Item : Type 0 where
-  compares : Order → Item
+  compares : Ordering → Item
   unreadable : Item
 
 pub data Halved : Type 0 where
@@ -25,9 +25,9 @@ middle low high = low + (high - low) / 2
 
 -- a turn, after the comparison of the middle item; `again` goes on from a low, a high and a count
 unfoldable pub turn : (ℕ → ℕ → ℕ → Halved) → ℕ → ℕ → ℕ → ℕ → Item → Halved
-turn again low mid high turns (compares Below) = again (mid + 1) high (turns + 1)
+turn again low mid high turns (compares Less) = again (mid + 1) high (turns + 1)
 turn again low mid high turns (compares Equal) = found mid (turns + 1)
-turn again low mid high turns (compares Above) = again low mid (turns + 1)
+turn again low mid high turns (compares Greater) = again low mid (turns + 1)
 turn again low mid high turns unreadable = broken
 
 unfoldable pub halve_if : (ℕ → ℕ → ℕ → Halved) → (ℕ → Item) → ℕ → ℕ → ℕ → Bool → Halved

@@ -6,7 +6,7 @@ use Rattle.std.specs.Prelude.{ℕ, zero, suc, ◌+◌, List}
 use Rattle.json_model.specs.Choose.{choose}
 use Rattle.json_model.specs.Reading.{halt, done, Reading, Asked, answers, refuses, answer, refuse, ask, ◌>>=◌, ◌>>◌}
 use Rattle.json_model.specs.Bytes.{part}
-use Rattle.json_model.specs.Span.{Span}
+use Rattle.json_model.specs.declared.Span.{Span}
 use Rattle.json_model.specs.Texts.{compare_numbers, compare_texts, is_equal}
 use Rattle.binary_json_rules.specs.Areas.{word, count, slot, content}
 use Rattle.binary_json_rules.specs.Questions.{opening, object_here, key_entry_of, entry_of, slot_read, text_named}

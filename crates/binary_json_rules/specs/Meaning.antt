@@ -8,7 +8,7 @@ use Rattle.json_model.specs.Choose.{choose}
 use Rattle.json_model.specs.Limits.{least_binary, longest, deepest}
 use Rattle.json_model.specs.Number.{binary64, finite, float_tree}
 use Rattle.json_model.specs.Texts.{compare_texts}
-use Rattle.json_model.specs.declared.Order.TheVariants.{Below}
+use Rattle.std.specs.declared.cmp.Ordering.TheVariants.{Less}
 use Rattle.json_model.specs.Tree.{Tree, null, bool, num, str, arr, obj, Trees, none, more, Members, end, member, size, sizem, depth}
 use Rattle.binary_json_rules.specs.Areas.{word, low, high, index, count, slot, text, content, numbers, Kind, k_array, k_object, k_scalar, kind_of, t_false, t_true, t_null, t_string, t_number, t_container, type_of}
 use Rattle.binary_json_rules.specs.Marks.{words, word_place}
@@ -163,7 +163,7 @@ pub record Means (doc : List ℕ) (t : Tree) : Type 0 where
   pub index_inside : index doc + 4 ≤ length doc
   pub slots_inside : slot doc (count doc) ≤ length doc
   pub slots_good : (k : ℕ) → k < count doc → SlotGood doc k
-  pub ascending : (k : ℕ) → suc k < count doc → compare_texts (content doc k) (content doc (suc k)) ≡ Below
+  pub ascending : (k : ℕ) → suc k < count doc → compare_texts (content doc k) (content doc (suc k)) ≡ Less
   pub numbers_step : (length doc - numbers doc) % 8 ≡ 0
   pub root : ContainerIs doc t 4
   pub placed : PlacedUnder doc t 4

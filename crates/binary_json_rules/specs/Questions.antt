@@ -5,7 +5,8 @@ use Rattle.std.specs.Prelude.{ℕ, suc, ◌+◌, ◌-◌, ◌*◌, ◌%◌, ◌|
 use Rattle.json_model.specs.Choose.{choose}
 use Rattle.json_model.specs.Reading.{Reading, answer, ask, ◌>>=◌, ◌>>◌, need}
 use Rattle.json_model.specs.Bytes.{number}
-use Rattle.json_model.specs.Span.{Span, spanned}
+use Rattle.json_model.specs.Span.{spanned}
+use Rattle.json_model.specs.declared.Span.{Span}
 use Rattle.binary_json_rules.specs.Areas.{word, low, high, index, count, slot, text, numbers}
 use Rattle.binary_json_rules.specs.Verdict.{header, slot_named, number_named}
 use Rattle.binary_json_rules.specs.TreeOf.{slot_at}

@@ -10,7 +10,7 @@ use lib.ListN.{length}
 use Rattle.json_model.specs.Choose.{choose}
 use Rattle.json_model.specs.Reading.{Reading, answer, ask, answers, refuses, ◌>>=◌, need}
 use Rattle.json_model.specs.Bytes.{number, part}
-use Rattle.json_model.specs.Span.{Span}
+use Rattle.json_model.specs.declared.Span.{Span}
 use Rattle.json_model.specs.Tree.{Tree, null, bool, num, str, arr, obj, Trees, Members, member, end, size, sizem, MemberIs, IsContainer, NoNumber, NoString, NoObject, NoContainer}
 use Rattle.json_model.proofs.Reading.{eq→eqb, past, then, stops, pass, fail, need_yes}
 use Rattle.binary_json_rules.specs.Areas.{word, low, high, index, count, slot, text, content, numbers, Kind, k_array, k_object, k_scalar, k_other, kind_of, EntryType, t_false, t_true, t_null, t_string, t_number, t_container, t_other, type_of}

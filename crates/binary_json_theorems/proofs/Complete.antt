@@ -11,7 +11,7 @@ use Rattle.json_model.specs.Bytes.{number}
 use Rattle.json_model.specs.Limits.{deepest}
 use Rattle.json_model.specs.Number.{binary64, finite}
 use Rattle.json_model.specs.Texts.{compare_texts}
-use Rattle.json_model.specs.declared.Order.TheVariants.{Below}
+use Rattle.std.specs.declared.cmp.Ordering.TheVariants.{Less}
 use Rattle.json_model.specs.Tree.{Tree, null, bool, num, str, arr, obj, Trees, none, more, Members, end, member, size, sizem, depth, depths, depthm}
 use Rattle.json_model.proofs.Reading.{eq→eqb, then, pass, need_yes}
 use Rattle.binary_json_rules.specs.Areas.{word, low, high, index, count, slot, content, numbers, kind_of, t_container, type_of}
@@ -44,7 +44,7 @@ module _ {S : Type 0} (doc : List ℕ) (s : S) where
 
   -- ---- slots
 
-  ascends_yes : (k n : ℕ) → k < n → ((j : ℕ) → suc j < n → compare_texts (content doc j) (content doc (suc j)) ≡ Below) → T (ascends doc k)
+  ascends_yes : (k n : ℕ) → k < n → ((j : ℕ) → suc j < n → compare_texts (content doc j) (content doc (suc j)) ≡ Less) → T (ascends doc k)
   unfolding ascends
   ascends_yes zero n h up = tt
   ascends_yes (suc k) n h up = rw (up k h) tt

@@ -10,7 +10,7 @@ use lib.ListN.{length, get_or}
 use Rattle.json_model.specs.Reading.{done, ask, answers, refuses, verdict_of}
 use Rattle.json_model.specs.Bytes.{number, part}
 use Rattle.json_model.specs.Number.{binary64, float_tree}
-use Rattle.json_model.specs.Span.{Span}
+use Rattle.json_model.specs.declared.Span.{Span}
 use Rattle.json_model.specs.Texts.{compare_numbers}
 use Rattle.json_model.specs.Tree.{Tree, num, str, arr, obj, Trees, Members, size, sizem, ElementIs, MemberIs, Lacks, IsContainer, NoNumber, NoString, NoObject, NoContainer, Subtree, whole}
 use Rattle.json_model.specs.Tree as Tree

@@ -8,51 +8,51 @@ use native.Mathlib.Nat.{pow-succ'}
 use native.Mathlib.Omega.{arith}
 use native.Mathlib.Decide.{ℕ_discrete}
 use lib.Dec.{T, ltb, ltb→lt, nltb→le}
-use Rattle.json_model.specs.declared.Order.{Order}
-use Rattle.json_model.specs.declared.Order.TheVariants.{Below, Equal, Above}
+use Rattle.std.specs.declared.cmp.Ordering.{Ordering}
+use Rattle.std.specs.declared.cmp.Ordering.TheVariants.{Less, Equal, Greater}
 use Rattle.json_model.proofs.Texts.{below≢above}
 use Rattle.binary_json_rules.specs.Halving.{Item, compares, unreadable, Halved, found, missed, broken, middle, turn, halve_if, halve_from, halve, digits_in, digits, turns_of}
 
-pub compares_inj : {o p : Order} → compares o ≡ compares p → o ≡ p
+pub compares_inj : {o p : Ordering} → compares o ≡ compares p → o ≡ p
 compares_inj e = cc
 
 -- each of m items can be read, and of any two the first is below or the second above what is sought
 pub record Sorted (item : ℕ → Item) (m : ℕ) : Type 0 where
-  pub readable : (i : ℕ) → i < m → (o : Order) × (item i ≡ compares o)
-  pub rising : (i j : ℕ) → i < j → j < m → (item i ≡ compares Below) ⊎ (item j ≡ compares Above)
+  pub readable : (i : ℕ) → i < m → (o : Ordering) × (item i ≡ compares o)
+  pub rising : (i j : ℕ) → i < j → j < m → (item i ≡ compares Less) ⊎ (item j ≡ compares Greater)
 
 -- what a halving's end says of the items
 abbrev pub Ended : (ℕ → Item) → ℕ → Halved → Type 0
 Ended item m (found k turns) = (k < m) × (item k ≡ compares Equal)
-Ended item m (missed l turns) = (l ≤ m) × ((i : ℕ) → i < l → item i ≡ compares Below) × ((i : ℕ) → l ≤ i → i < m → item i ≡ compares Above)
+Ended item m (missed l turns) = (l ≤ m) × ((i : ℕ) → i < l → item i ≡ compares Less) × ((i : ℕ) → l ≤ i → i < m → item i ≡ compares Greater)
 Ended item m broken = ⊥
 
 module _ (item : ℕ → Item) (m : ℕ) (sorted : Sorted item m) where
   abbrev Lower : ℕ → Type 0
-  Lower low = (i : ℕ) → i < low → item i ≡ compares Below
+  Lower low = (i : ℕ) → i < low → item i ≡ compares Less
 
   abbrev Upper : ℕ → Type 0
-  Upper high = (i : ℕ) → high ≤ i → i < m → item i ≡ compares Above
+  Upper high = (i : ℕ) → high ≤ i → i < m → item i ≡ compares Greater
 
-  lower_to : (mid : ℕ) → mid < m → item mid ≡ compares Below → Lower (mid + 1)
+  lower_to : (mid : ℕ) → mid < m → item mid ≡ compares Less → Lower (mid + 1)
   lower_to mid h e i b = go (ℕ_discrete i mid)
     where
-      earlier : (item i ≡ compares Below) ⊎ (item mid ≡ compares Above) → item i ≡ compares Below
+      earlier : (item i ≡ compares Less) ⊎ (item mid ≡ compares Greater) → item i ≡ compares Less
       earlier (inl p) = p
       earlier (inr q) = absurd (below≢above (compares_inj (sym e ∙ q)))
 
-      go : Dec (i ≡ mid) → item i ≡ compares Below
+      go : Dec (i ≡ mid) → item i ≡ compares Less
       go (yes x) = rw x e
       go (no x) = earlier (sorted.rising i mid (omega arith) h)
 
-  upper_from : (mid : ℕ) → item mid ≡ compares Above → Upper mid
+  upper_from : (mid : ℕ) → item mid ≡ compares Greater → Upper mid
   upper_from mid e i b h = go (ℕ_discrete i mid)
     where
-      later : (item mid ≡ compares Below) ⊎ (item i ≡ compares Above) → item i ≡ compares Above
+      later : (item mid ≡ compares Less) ⊎ (item i ≡ compares Greater) → item i ≡ compares Greater
       later (inl p) = absurd (below≢above (compares_inj (sym p ∙ e)))
       later (inr q) = q
 
-      go : Dec (i ≡ mid) → item i ≡ compares Above
+      go : Dec (i ≡ mid) → item i ≡ compares Greater
       go (yes x) = rw x e
       go (no x) = later (sorted.rising mid i (omega arith) h)
 
@@ -64,11 +64,11 @@ module _ (item : ℕ → Item) (m : ℕ) (sorted : Sorted item m) where
   over low high h g a lows highs = (omega arith, lows, λ i b k. highs i (omega arith) k)
 
   after_turn : (f : ℕ) → Halves f → (low mid high n : ℕ) → low ≤ mid → mid < high → high ≤ m → high - (mid + 1) ≤ f → mid - low ≤ f → Lower low → Upper high
-      → (o : Order) → item mid ≡ compares o → Ended item m (turn (halve_from f item) low mid high n (compares o))
+      → (o : Ordering) → item mid ≡ compares o → Ended item m (turn (halve_from f item) low mid high n (compares o))
   unfolding turn
-  after_turn f r low mid high n g h a b c lows highs Below e = r (mid + 1) high (n + 1) (omega arith) a b (lower_to mid (omega arith) e) highs
+  after_turn f r low mid high n g h a b c lows highs Less e = r (mid + 1) high (n + 1) (omega arith) a b (lower_to mid (omega arith) e) highs
   after_turn f r low mid high n g h a b c lows highs Equal e = (omega arith, e)
-  after_turn f r low mid high n g h a b c lows highs Above e = r low mid (n + 1) g (omega arith) c lows (upper_from mid e)
+  after_turn f r low mid high n g h a b c lows highs Greater e = r low mid (n + 1) g (omega arith) c lows (upper_from mid e)
 
   after_test : (f : ℕ) → Halves f → (low high n : ℕ) → low ≤ high → high ≤ m → high - low ≤ suc f → Lower low → Upper high
       → (b : Bool) → (T b → low < high) → (T (not b) → high ≤ low) → Ended item m (halve_if (halve_from f item) item low high n b)
@@ -97,9 +97,9 @@ module _ (item other : ℕ → Item) (m : ℕ) (same : (i : ℕ) → i < m → i
 
   same_turn : (f : ℕ) → Same f → (low mid high n : ℕ) → mid < high → high ≤ m → (x : Item) → turn (halve_from f item) low mid high n x ≡ turn (halve_from f other) low mid high n x
   unfolding turn
-  same_turn f r low mid high n h a (compares Below) = r (mid + 1) high (n + 1) a
+  same_turn f r low mid high n h a (compares Less) = r (mid + 1) high (n + 1) a
   same_turn f r low mid high n h a (compares Equal) = refl
-  same_turn f r low mid high n h a (compares Above) = r low mid (n + 1) (omega arith)
+  same_turn f r low mid high n h a (compares Greater) = r low mid (n + 1) (omega arith)
   same_turn f r low mid high n h a unreadable = refl
 
   same_test : (f : ℕ) → Same f → (low high n : ℕ) → high ≤ m → (b : Bool) → (T b → low < high)
@@ -121,7 +121,7 @@ module _ (item other : ℕ → Item) (m : ℕ) (same : (i : ℕ) → i < m → i
 
 -- ---- items that can all be read, sorted or not, end every halving
 
-module _ (item : ℕ → Item) (m : ℕ) (readable : (i : ℕ) → (o : Order) × (item i ≡ compares o)) where
+module _ (item : ℕ → Item) (m : ℕ) (readable : (i : ℕ) → (o : Ordering) × (item i ≡ compares o)) where
   abbrev Whole : ℕ → Type 0
   Whole f = (low high n : ℕ) → halve_from f item low high n ≡ broken → ⊥
 
@@ -131,11 +131,11 @@ module _ (item : ℕ → Item) (m : ℕ) (readable : (i : ℕ) → (o : Order) �
   found≢broken : (k n : ℕ) → found k n ≡ broken → ⊥
   found≢broken k n e = let z : ◌≡◌ {A = ℕ} 0 1 = cc in omega arith
 
-  whole_turn : (f : ℕ) → Whole f → (low mid high n : ℕ) (o : Order) → turn (halve_from f item) low mid high n (compares o) ≡ broken → ⊥
+  whole_turn : (f : ℕ) → Whole f → (low mid high n : ℕ) (o : Ordering) → turn (halve_from f item) low mid high n (compares o) ≡ broken → ⊥
   unfolding turn
-  whole_turn f r low mid high n Below e = r (mid + 1) high (n + 1) e
+  whole_turn f r low mid high n Less e = r (mid + 1) high (n + 1) e
   whole_turn f r low mid high n Equal e = found≢broken mid (n + 1) e
-  whole_turn f r low mid high n Above e = r low mid (n + 1) e
+  whole_turn f r low mid high n Greater e = r low mid (n + 1) e
 
   whole_test : (f : ℕ) → Whole f → (low high n : ℕ) (b : Bool) → halve_if (halve_from f item) item low high n b ≡ broken → ⊥
   unfolding halve_if
@@ -161,9 +161,9 @@ module _ (item : ℕ → Item) where
 
   turns_turn : (f : ℕ) → Turns f → (low mid high n k : ℕ) → high - (mid + 1) < 2 ^ k → mid - low < 2 ^ k → (x : Item) → turns_of (turn (halve_from f item) low mid high n x) ≤ n + suc k
   unfolding turn
-  turns_turn f r low mid high n k a b (compares Below) = omega (arith, r (mid + 1) high (n + 1) k a)
+  turns_turn f r low mid high n k a b (compares Less) = omega (arith, r (mid + 1) high (n + 1) k a)
   turns_turn f r low mid high n k a b (compares Equal) = omega arith
-  turns_turn f r low mid high n k a b (compares Above) = omega (arith, r low mid (n + 1) k b)
+  turns_turn f r low mid high n k a b (compares Greater) = omega (arith, r low mid (n + 1) k b)
   turns_turn f r low mid high n k a b unreadable = omega arith
 
   turns_test : (f : ℕ) → Turns f → (low high n k : ℕ) → high - low < 2 ^ k → (b : Bool) → (T b → low < high) → turns_of (halve_if (halve_from f item) item low high n b) ≤ n + k

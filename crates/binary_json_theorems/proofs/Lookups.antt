@@ -10,7 +10,7 @@ use lib.Dec.{T, ltb, ltb→lt, nltb→le}
 use Rattle.json_model.specs.Choose.{choose}
 use Rattle.json_model.specs.Reading.{Outcome, answer, ask, answers}
 use Rattle.json_model.specs.Texts.{compare_texts, compare_numbers, is_equal}
-use Rattle.json_model.specs.declared.Order.TheVariants.{Below, Equal, Above}
+use Rattle.std.specs.declared.cmp.Ordering.TheVariants.{Less, Equal, Greater}
 use Rattle.json_model.specs.Tree.{Tree, obj, Members, end, member, sizem, MemberIs, Lacks}
 use Rattle.json_model.proofs.Reading.{then}
 use Rattle.json_model.proofs.Texts.{below≢equal, equal≢above, numbers_below, numbers_equal, numbers_above, texts_equal, texts_same, texts_above, text_strict, text_cotrans, text_trans}
@@ -27,11 +27,11 @@ use Rattle.binary_json_theorems.proofs.Halves.{compares_inj, Sorted, Ended, halv
 module _ (doc : List ℕ) (t : Tree) (m : Means doc t) where
   -- ---- the strings ascend
 
-  rising : (i j : ℕ) → i < j → j < count doc → compare_texts (content doc i) (content doc j) ≡ Below
+  rising : (i j : ℕ) → i < j → j < count doc → compare_texts (content doc i) (content doc j) ≡ Less
   rising i zero h b = absurd (omega arith)
   rising i (suc j) h b = go (ℕ_discrete i j) (rising i j)
     where
-      go : Dec (i ≡ j) → (i < j → j < count doc → compare_texts (content doc i) (content doc j) ≡ Below) → compare_texts (content doc i) (content doc (suc j)) ≡ Below
+      go : Dec (i ≡ j) → (i < j → j < count doc → compare_texts (content doc i) (content doc j) ≡ Less) → compare_texts (content doc i) (content doc (suc j)) ≡ Less
       go (yes e) r = rw e (m.ascending j b)
       go (no n) r = text_trans _ _ _ (r (omega arith) (omega arith)) (m.ascending j b)
 
@@ -51,8 +51,8 @@ module _ (doc : List ℕ) (t : Tree) (m : Means doc t) where
     rising = λ i j h b. go i j (text_cotrans _ _ x (rising i j h b));
   }
     where
-      go : (i j : ℕ) → (compare_texts (content doc i) x ≡ Below) ⊎ (compare_texts x (content doc j) ≡ Below)
-          → (content_item doc x i ≡ compares Below) ⊎ (content_item doc x j ≡ compares Above)
+      go : (i j : ℕ) → (compare_texts (content doc i) x ≡ Less) ⊎ (compare_texts x (content doc j) ≡ Less)
+          → (content_item doc x i ≡ compares Less) ⊎ (content_item doc x j ≡ compares Greater)
       go i j (inl p) = inl (ap compares p)
       go i j (inr q) = inr (ap compares ((texts_above (content doc j) x).1 q))
 
@@ -94,7 +94,7 @@ module _ (doc : List ℕ) (t : Tree) (m : Means doc t) where
     }
       where
         go : (i j : ℕ) → word doc (key_entry_of c i) < word doc (key_entry_of c j) → (l : Bool) → (T l → word doc (key_entry_of c i) < v) → (T (not l) → v ≤ word doc (key_entry_of c i))
-            → (key_item doc c v i ≡ compares Below) ⊎ (key_item doc c v j ≡ compares Above)
+            → (key_item doc c v i ≡ compares Less) ⊎ (key_item doc c v j ≡ compares Greater)
         go i j h true p q = inl (ap compares ((numbers_below (word doc (key_entry_of c i)) v).1 (p tt)))
         go i j h false p q = let r = q tt in inr (ap compares ((numbers_above (word doc (key_entry_of c j)) v).1 (omega arith)))
 
@@ -142,7 +142,7 @@ module _ (doc : List ℕ) (t : Tree) (m : Means doc t) where
         (v, rw (← (f ∙ ap (content doc) o)) y)
 
     -- a miss leaves no equal item
-    missed_none : (item : ℕ → Item) (size l : ℕ) → ((i : ℕ) → i < l → item i ≡ compares Below) → ((i : ℕ) → l ≤ i → i < size → item i ≡ compares Above)
+    missed_none : (item : ℕ → Item) (size l : ℕ) → ((i : ℕ) → i < l → item i ≡ compares Less) → ((i : ℕ) → l ≤ i → i < size → item i ≡ compares Greater)
         → (i : ℕ) → i < size → item i ≡ compares Equal → ⊥
     missed_none item size l lows highs i b e =
         let p : i < l → ⊥ = λ h. below≢equal (compares_inj (sym (lows i h) ∙ e)) in

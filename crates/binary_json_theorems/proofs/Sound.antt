@@ -15,8 +15,8 @@ use Rattle.json_model.specs.Bytes.{number}
 use Rattle.json_model.specs.Limits.{deepest}
 use Rattle.json_model.specs.Number.{binary64, finite, float_tree, negative, magnitude}
 use Rattle.json_model.specs.Texts.{compare_texts, is_below}
-use Rattle.json_model.specs.declared.Order.{Order}
-use Rattle.json_model.specs.declared.Order.TheVariants.{Below, Equal, Above}
+use Rattle.std.specs.declared.cmp.Ordering.{Ordering}
+use Rattle.std.specs.declared.cmp.Ordering.TheVariants.{Less, Equal, Greater}
 use Rattle.json_model.specs.Tree.{Tree, null, bool, num, str, arr, obj, Trees, none, more, Members, end, member, size, sizem, depth, depths, depthm, IsContainer}
 use Rattle.json_model.proofs.Reading.{halt≢done, done_answer, done_kept, step, passed, need_done, need_yes, then, assoc}
 use Rattle.binary_json_rules.specs.Areas.{word, low, high, index, count, slot, content, numbers, Kind, k_array, k_object, k_scalar, k_other, kind_of, EntryType, t_false, t_true, t_null, t_string, t_number, t_container, t_other, type_of}
@@ -269,17 +269,17 @@ root_scalar doc ms ns os t d m h x y = go t d h y
 module _ (doc : List ℕ) where
   abbrev Ascends : ℕ → Type 0
   Ascends zero = Unit {0}
-  Ascends (suc k) = compare_texts (content doc k) (content doc (suc k)) ≡ Below
+  Ascends (suc k) = compare_texts (content doc k) (content doc (suc k)) ≡ Less
 
   ascends_sound : (k : ℕ) → T (ascends doc k) → Ascends k
   unfolding ascends
   ascends_sound zero h = tt
   ascends_sound (suc k) h = below (compare_texts (content doc k) (content doc (suc k))) h
     where
-      below : (o : Order) → T (is_below o) → o ≡ Below
-      below Below h = refl
+      below : (o : Ordering) → T (is_below o) → o ≡ Less
+      below Less h = refl
       below Equal h = absurd h
-      below Above h = absurd h
+      below Greater h = absurd h
 
   record Slot (k : ℕ) : Type 0 where
     good : SlotGood doc k

@@ -1,3 +1,3 @@
-// The theorems about the rules of BinaryJson, in proofs/; proofs/Demands.antt states those that answer the demands. The definitions stand in
-// `binary_json_rules`.
+// The theorems about the rules of BinaryJson, in proofs/; proofs/Demands.antt states those that answer the demands. The
+// definitions stand in `binary_json_rules`.
 #![tactic(auto)]

@@ -8,7 +8,8 @@ use Prim.Native.Nat.{ℕ, ◌+◌, ◌*◌, ◌≤◌, ◌<◌}
 use borrow.Author.Rules.{rules}
 use lib.ListN.{length, get_or}
 use Rattle.json_model.specs.Reading.{Outcome, halt, done, Asked, ask, answers, refuses, told, verdict_of, kept_of}
-use Rattle.json_model.specs.declared.Verdict.{Verdict}
+use Rattle.std.specs.Prelude.{Option, Result, Ok, Err}
+use Rattle.json_model.specs.declared.Refusal.{Refusal}
 use Rattle.json_model.specs.Tree.{Tree, null, bool, num, str, arr, obj, Trees, Members, sizem, IsContainer, NoContainer, NoObject, Subtree, whole}
 use Rattle.json_model.specs.Tree as Tree
 use Rattle.json_model.proofs.Alike.{Alike}
@@ -25,12 +26,10 @@ use Rattle.binary_json_check.specs.Told.{told_marks}
 use Rattle.binary_json_check.proofs.Told.{verdict_told, marks_told}
 use Rattle.binary_json_answers.specs.Told.{told_sized, told_tree, told_member, told_type, told_span, told_bits, told_scan, told_lookup}
 use Rattle.binary_json_answers.specs.declared.Sized.{Sized}
-use Rattle.binary_json_answers.specs.declared.TreeAt.{TreeAt}
+use Rattle.binary_json_areas.specs.declared.offsets.TreeOffset.{TreeOffset}
+use Rattle.json_model.specs.declared.Span.{Span}
 use Rattle.binary_json_answers.specs.declared.MemberAt.{MemberAt}
 use Rattle.binary_json_answers.specs.declared.Typed.{Typed}
-use Rattle.binary_json_answers.specs.declared.Span.{Span}
-use Rattle.binary_json_answers.specs.declared.Bits.{Bits}
-use Rattle.binary_json_answers.specs.declared.Scanned.{Scanned}
 use Rattle.binary_json_answers.specs.declared.Looked.{Looked}
 use Rattle.binary_json_entries.proofs.Entries.{string_inside, slot_text_inside}
 use Rattle.binary_json_theorems.proofs.Afterwards.{Ends, AtRefusal, Walked}
@@ -45,31 +44,31 @@ use Rattle.claims.specs.Promises.{RightAnswer, the_member, no_member, LookupsAgr
 
 -- ---- the check, and the marks afterwards
 
-refused_marks : (doc lent after : List ℕ) (v : Verdict) → Ends (AtRefusal doc lent) (Walked doc lent) (told_marks v after) → (n p : ℕ) → told v ≡ refuses n p → AtRefusal doc lent n after
-refused_marks doc lent after Verdict.Accepted h n p e = absurd (halt≢done (sym e))
-refused_marks doc lent after (Verdict.Refused r) h n p e = subst (λ (q : ℕ). AtRefusal doc lent q after) (ap number e) h
+refused_marks : (doc lent after : List ℕ) (v : Result (Unit {0}) Refusal) → Ends (AtRefusal doc lent) (Walked doc lent) (told_marks v after) → (n p : ℕ) → told v ≡ refuses n p → AtRefusal doc lent n after
+refused_marks doc lent after (Ok tt) h n p e = absurd (halt≢done (sym e))
+refused_marks doc lent after (Err r) h n p e = subst (λ (q : ℕ). AtRefusal doc lent q after) (ap number e) h
   where
     number : Asked (Unit {0}) → ℕ
     number (halt n p u) = n
     number (done a u) = 0
 
 -- whatever the verdict: as long as they were, and those beyond the tree as they were
-kept_marks : (doc lent after : List ℕ) (v : Verdict) → Ends (AtRefusal doc lent) (Walked doc lent) (told_marks v after)
+kept_marks : (doc lent after : List ℕ) (v : Result (Unit {0}) Refusal) → Ends (AtRefusal doc lent) (Walked doc lent) (told_marks v after)
     → (length after ≡ length lent) × ((k : ℕ) → words doc ≤ k → get_or after k 0 ≡ get_or lent k 0)
-kept_marks doc lent after Verdict.Accepted w = (w.long, w.beyond)
-kept_marks doc lent after (Verdict.Refused r) (Afterwards.untouched n e) = (ap length e, λ k h. ap (λ z. get_or z k 0) e)
-kept_marks doc lent after (Verdict.Refused r) (Afterwards.walked l h m w) = (w.long, w.beyond)
+kept_marks doc lent after (Ok tt) w = (w.long, w.beyond)
+kept_marks doc lent after (Err r) (Afterwards.untouched n e) = (ap length e, λ k h. ap (λ z. get_or z k 0) e)
+kept_marks doc lent after (Err r) (Afterwards.walked l h m w) = (w.long, w.beyond)
 
-module _ (doc lent after : List ℕ) (v : Verdict) (fixed : told_marks v after ≡ verdict doc lent) where
+module _ (doc lent after : List ℕ) (v : Result (Unit {0}) Refusal) (fixed : told_marks v after ≡ verdict doc lent) where
   says : told v ≡ verdict_of (verdict doc lent)
   says = verdict_told v after ∙ ap verdict_of fixed
 
   accepted_so : told v ≡ answers tt → verdict doc lent ≡ done tt after
   accepted_so e = sym fixed ∙ go v e
     where
-      go : (w : Verdict) → told w ≡ answers tt → told_marks w after ≡ done tt after
-      go Verdict.Accepted e = refl
-      go (Verdict.Refused r) e = absurd (halt≢done e)
+      go : (w : Result (Unit {0}) Refusal) → told w ≡ answers tt → told_marks w after ≡ done tt after
+      go (Ok tt) e = refl
+      go (Err r) e = absurd (halt≢done e)
 
   accepts : BinaryAccepts doc lent v
   accepts = record {
@@ -120,7 +119,7 @@ scalar_reached doc t m u (Tree.value ms j x s y) n =
     let (q, b, o, is) = Rules.member_of_object doc t m c l ms j x u h y in
     (c, entry_of c (sizem ms) j, l, o, is)
 
-pub check_kept : (doc lent after : List ℕ) (v : Verdict) → told_marks v after ≡ verdict doc lent → CheckBinary doc lent after v
+pub check_kept : (doc lent after : List ℕ) (v : Result (Unit {0}) Refusal) → told_marks v after ≡ verdict doc lent → CheckBinary doc lent after v
 check_kept doc lent after v fixed = record {
   fixed = fixed;
   marks_left = marks_left doc lent after v fixed;
@@ -144,7 +143,7 @@ same_ends doc lent other l r (halt n p y) (done b z) h = absurd h
 same_ends doc lent other l r (done a y) (halt m q z) h = absurd h
 same_ends doc lent other l r (done a y) (done b z) (e, w) = inr w.same
 
-pub twice_kept : (doc lent after other otherAfter : List ℕ) {v w : Verdict} → told_marks v after ≡ verdict doc lent → told_marks w otherAfter ≡ verdict doc other
+pub twice_kept : (doc lent after other otherAfter : List ℕ) {v w : Result (Unit {0}) Refusal} → told_marks v after ≡ verdict doc lent → told_marks w otherAfter ≡ verdict doc other
     → CheckBinaryTwice doc lent after other otherAfter (record { first = v; second = w })
 twice_kept doc lent after other otherAfter {v} {w} e f l r = record {
   same_verdict = says doc lent after v e ∙ (Rules.same_verdict doc lent other l r ∙ sym (says doc other otherAfter w f));
@@ -224,7 +223,7 @@ module _ (doc : List ℕ) (c i a s : ℕ) (r : BinaryAnswers) (fixed : BinaryFix
     }
 
 -- from the contracts of the calls, as the function that makes them has them
-pub ask_kept : (doc : List ℕ) (c i a s : ℕ) {z : Sized} {e : TreeAt} {m : MemberAt} {y : Typed} {o : TreeAt} {t : Span} {b : Bits} {w : Span}
+pub ask_kept : (doc : List ℕ) (c i a s : ℕ) {z : Result Sized Refusal} {e : Result TreeOffset Refusal} {m : Result MemberAt Refusal} {y : Result Typed Refusal} {o : Result TreeOffset Refusal} {t : Result Span Refusal} {b : Result ℕ Refusal} {w : Result Span Refusal}
     → told_sized z ≡ ask (kind_and_size doc c) → told_tree e ≡ ask (element doc c i) → told_member m ≡ ask (member_at doc c i) → told_type y ≡ ask (entry_type doc a)
     → told_tree o ≡ ask (container_at doc a) → told_span t ≡ ask (string_at doc a) → told_bits b ≡ ask (number_at doc a) → told_span w ≡ ask (slot_text doc s)
     → AskBinary doc c i a s (record { sized = z; element = e; member = m; typed = y; container = o; string = t; number = b; slot = w })
@@ -252,7 +251,7 @@ ask_kept doc c i a s {z} {e} {m} {y} {o} {t} {b} {w} h1 h2 h3 h4 h5 h6 h7 h8 =
 
 -- ---- both lookups
 
-module _ (doc : List ℕ) (c : ℕ) (x : List ℕ) (q : Looked) (f : Scanned) (quick : told_lookup q ≡ lookup_of (ask (quick_lookup doc c x))) (scan : told_scan f ≡ ask (plain_scan doc c x)) where
+module _ (doc : List ℕ) (c : ℕ) (x : List ℕ) (q : Result Looked Refusal) (f : Result (Option TreeOffset) Refusal) (quick : told_lookup q ≡ lookup_of (ask (quick_lookup doc c x))) (scan : told_scan f ≡ ask (plain_scan doc c x)) where
   agree : (t : Tree) → Means doc t → Leads doc c → (ms : Members) → ContainerIs doc (obj ms) c → LookupsAgree doc c ms x (record { quick = q; scan = f })
   unfolding lookup_of
   agree t m l ms h =

@@ -7,8 +7,8 @@ use lib.ListN.{length, get_or}
 use borrow.Author.Rules.{rules}
 use Rattle.json_model.specs.Bytes.{Bytes, part}
 use Rattle.json_model.specs.Reading.{Outcome, halt, done, Asked, ask, answers, told, kept_of, verdict_of}
-use Rattle.json_model.specs.Span.{Span}
-use Rattle.json_model.specs.declared.Verdict.{Verdict}
+use Rattle.json_model.specs.declared.Span.{Span}
+use Rattle.std.specs.Prelude.{Option, Result, Ok, Err}
 use Rattle.json_model.specs.declared.Refusal.{Refusal}
 use Rattle.json_model.specs.Tree.{Tree, arr, obj, Members, Subtree, whole}
 use Rattle.json_model.specs.Tree as Tree
@@ -29,12 +29,9 @@ use Rattle.fractured_json_check.specs.Told.{told_checked}
 use Rattle.fractured_json_check.proofs.Checks as Checks
 use Rattle.fractured_json_check.specs.declared.answers.Checked.{Checked}
 use Rattle.fractured_json_answers.specs.Told.{told_place, told_kind, told_number, told_text, told_member, told_found, told_key}
-use Rattle.fractured_json_answers.specs.declared.Place.{Place}
 use Rattle.fractured_json_answers.specs.declared.Kind.{Kind}
 use Rattle.fractured_json_answers.specs.declared.Number.{Number}
-use Rattle.fractured_json_answers.specs.declared.Text.{Text}
 use Rattle.fractured_json_answers.specs.declared.Member.{Member}
-use Rattle.fractured_json_answers.specs.declared.Found as FoundAnswer
 use Rattle.fractured_json_answers.specs.declared.Key.{Key}
 use Rattle.claims.specs.declared.FracturedAnswers.{FracturedAnswers}
 use Rattle.claims.specs.Promises.{TextInside, KeyInside, FracturedFixed, TableLeft, FracturedAccepts, FracturedNodes, FirstAnswer, first, none, FracturedAnswered}
@@ -42,7 +39,7 @@ use Rattle.claims.specs.Promises.{CheckList, AskFractured, CheckAndAskFractured,
 
 -- ---- the checks
 
-pub list_kept : (list : List ℕ) (v : Verdict) → told v ≡ ask (key_list list) → CheckList list v
+pub list_kept : (list : List ℕ) (v : Result (Unit {0}) Refusal) → told v ≡ ask (key_list list) → CheckList list v
 list_kept list v e = record { fixed = e; accepted = (λ a. (list_exactly list).0 (sym e ∙ a), λ b. e ∙ (list_exactly list).1 b) }
 
 accepted_keys : (q : Outcome Keys (Unit {0})) → answers tt ≡ verdict_of q → (ks : Keys) × (q ≡ done tt ks)
@@ -112,16 +109,16 @@ span_inside doc list o p e =
     let (fits, rest) = text_step doc o n.got _ tt n.rest in
     subst (λ (q : Span). q.place + q.len ≤ length doc) (done_answer rest) fits
 
-string_inside : (doc list : List ℕ) (o : ℕ) (r : Text) → told_text r ≡ ask (string_at doc list o) → TextInside doc r
-string_inside doc list o (Text.At p n) e = span_inside doc list o _ (sym e)
-string_inside doc list o (Text.Refused r) e = tt
+string_inside : (doc list : List ℕ) (o : ℕ) (r : Result Span Refusal) → told_text r ≡ ask (string_at doc list o) → TextInside doc r
+string_inside doc list o (Ok s) e = span_inside doc list o _ (sym e)
+string_inside doc list o (Err r) e = tt
 
-key_inside : (doc list words : List ℕ) (count k : ℕ) (r : Key) → told_key r ≡ ask (key_at doc list words count k) → KeyInside doc list r
-key_inside doc list words count k (Key.Document p n past) e = Rules.key_inside doc list words count _ k (sym e)
-key_inside doc list words count k (Key.List p n past) e = Rules.key_inside doc list words count _ k (sym e)
-key_inside doc list words count k (Key.Refused r) e = tt
+key_inside : (doc list words : List ℕ) (count k : ℕ) (r : Result Key Refusal) → told_key r ≡ ask (key_at doc list words count k) → KeyInside doc list r
+key_inside doc list words count k (Ok (Key.Document p n past)) e = Rules.key_inside doc list words count _ k (sym e)
+key_inside doc list words count k (Ok (Key.List p n past)) e = Rules.key_inside doc list words count _ k (sym e)
+key_inside doc list words count k (Err r) e = tt
 
-pub ask_kept : (doc list words : List ℕ) (count o i : ℕ) (x : List ℕ) (k : ℕ) {a : Place} {b : Kind} {c : Number} {d : Text} {e : Place} {f : Member} {g : FoundAnswer.Found} {h : Key}
+pub ask_kept : (doc list words : List ℕ) (count o i : ℕ) (x : List ℕ) (k : ℕ) {a : Result ℕ Refusal} {b : Result Kind Refusal} {c : Result Number Refusal} {d : Result Span Refusal} {e : Result ℕ Refusal} {f : Result Member Refusal} {g : Result (Option ℕ) Refusal} {h : Result Key Refusal}
     → told_place a ≡ ask (end_of doc list words count o) → told_kind b ≡ ask (kind doc list o) → told_number c ≡ ask (number_at doc list o)
     → told_text d ≡ ask (string_at doc list o) → told_place e ≡ ask (element_at doc list words count o i) → told_member f ≡ ask (member_at doc list words count o i)
     → told_found g ≡ ask (first_member doc list words count o x) → told_key h ≡ ask (key_at doc list words count k)
@@ -239,20 +236,20 @@ abbrev key_answered : Asked MemberAt → ℕ
 key_answered (halt n p u) = 0
 key_answered (done q u) = q.key
 
-module _ (doc list lent after : List ℕ) (o j : ℕ) (c : Checked) (a : Member) (checks : told_checked c after ≡ checked doc list lent)
+module _ (doc list lent after : List ℕ) (o j : ℕ) (c : Checked) (a : Result Member Refusal) (checks : told_checked c after ≡ checked doc list lent)
     (asks : told_member a ≡ ask (member_at doc list after c.count o j)) where
   asked : told_member a ≡ ask (member_at doc list (checked doc list lent).words (checked doc list lent).count o j)
   asked = asks ∙ rw (words_are doc list lent after c checks, count_is doc list lent after c checks)
 
-  pub member_key_kept : (k v : ℕ) (bytes : List ℕ) → a ≡ Member.At k v → bytes ≡ key_bytes doc list after c.count k → MemberKeyText doc list lent o j bytes
-  member_key_kept k v bytes at text t m roomy l ms s h =
+  pub member_key_kept : (q : Member) (bytes : List ℕ) → a ≡ Ok q → bytes ≡ key_bytes doc list after c.count q.key → MemberKeyText doc list lent o j bytes
+  member_key_kept q bytes at text t m roomy l ms s h =
       let z = Rules.member_answer doc list t m lent roomy l ms j s h in
-      let here : k ≡ key_place doc o s.value.0 j = ap key_answered (sym (ap told_member at) ∙ (asked ∙ z.answered)) in
+      let here : q.key ≡ key_place doc o s.value.0 j = ap key_answered (sym (ap told_member at) ∙ (asked ∙ z.answered)) in
       let same : bytes ≡ z.key =
       text ∙ (rw (words_are doc list lent after c checks, count_is doc list lent after c checks, here) (Rules.key_bytes_lem doc list _ _ _ z.key _ z.key_read)) in
       (z.tree, rw same z.is_member)
 
-  pub member_key_refused : (bytes : List ℕ) (q : Refusal) → a ≡ Member.Refused q → MemberKeyText doc list lent o j bytes
+  pub member_key_refused : (bytes : List ℕ) (q : Refusal) → a ≡ Err q → MemberKeyText doc list lent o j bytes
   member_key_refused bytes q at t m roomy l ms s h =
       let z = Rules.member_answer doc list t m lent roomy l ms j s h in absurd (halt≢done (sym (ap told_member at) ∙ (asked ∙ z.answered)))
 

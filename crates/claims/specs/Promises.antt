@@ -13,14 +13,14 @@
 --   verdict, and a rule a question    the answer, or the number and the place of the first rule that fails
 --   told..                            what each case of an answer of the code says, in numbers and values
 -- "01" and "02" are the papers that the demands name; docs/format/README.md says where their rules stand.
-use Rattle.std.specs.Prelude.{ℕ, ◌+◌, ◌*◌, ◌≤◌, ◌<◌, Bool, List, [], ◌↔◌, ◌⊎◌, ◌≡◌, length, get_or}
+use Rattle.std.specs.Prelude.{ℕ, ◌+◌, ◌*◌, ◌≤◌, ◌<◌, Bool, List, [], ◌↔◌, ◌⊎◌, ◌≡◌, length, get_or, Result, Ok, Err}
 use Rattle.json_model.specs.Bytes.{part}
 use Rattle.json_model.specs.Number.{binary64, float_tree}
 use Rattle.json_model.specs.Reading.{Asked, ask, answers, refuses, told, kept_of, verdict_of}
-use Rattle.json_model.specs.Span as Texts
+use Rattle.json_model.specs.declared.Span.{Span}
 use Rattle.json_model.specs.Texts.{compare_texts, is_equal}
 use Rattle.json_model.specs.Tree.{Tree, null, bool, num, str, arr, obj, Trees, Members, size, sizem, ElementIs, MemberIs, Lacks, IsContainer, NoContainer, NoNumber, NoString, NoArray, NoObject, Subtree}
-use Rattle.json_model.specs.declared.Verdict.{Verdict}
+use Rattle.json_model.specs.declared.Refusal.{Refusal}
 use Rattle.text.specs.Steps.{compare_steps}
 use Rattle.text.specs.Hash.{hash_of}
 use Rattle.binary_json_rules.specs.Areas.{word, high, count, slot, content}
@@ -34,7 +34,6 @@ use Rattle.binary_json_rules.specs.Lookup.{Found, entry, absent, quick_lookup, l
 use Rattle.binary_json_rules.specs.Answers.{sized, typed_as}
 use Rattle.binary_json_check.specs.Told.{told_marks}
 use Rattle.binary_json_answers.specs.Told.{SpanInside, told_sized, told_tree, told_member, told_type, told_span, told_bits, told_scan, told_lookup}
-use Rattle.binary_json_answers.specs.declared.Span.{Span}
 use Rattle.fractured_json_rules.specs.ByteTables.{Len, f_object, f_array, form_of}
 use Rattle.fractured_json_rules.specs.Meaning.{Names, Lists, no_key, Keys, Means as FjMeans}
 use Rattle.fractured_json_rules.specs.KeyList.{key_list}
@@ -45,7 +44,6 @@ use Rattle.fractured_json_rules.specs.Leads.{element_place, key_place, Leads as 
 use Rattle.fractured_json_rules.specs.Questions as Fj
 use Rattle.fractured_json_rules.specs.Answers.{kind_of, value_of}
 use Rattle.fractured_json_answers.specs.Told.{told_place, told_kind, told_number, told_text, told_member as fjToldMember, told_found, told_key}
-use Rattle.fractured_json_answers.specs.declared.Text.{Text}
 use Rattle.fractured_json_answers.specs.declared.Key.{Key}
 use Rattle.frame_rules.specs.Frame.{answer_of}
 use Rattle.frame_rules.specs.Texts.{answer_text, total_text}
@@ -86,7 +84,7 @@ pub record LookupsFixed (doc : List ℕ) (c : ℕ) (x : List ℕ) (r : BothLooku
 -- 02, L4, says what the lent marks hold afterwards: "After 7 and 15 all marks are set to 0, and then 1 exactly for
 -- words of bodies marked; before that, and beyond the tree's marks, the buffer is unchanged." Which of them are 1 at a
 -- refusal is what `verdict` says; of an accepted document all are.
-pub record MarksLeft (doc lent after : List ℕ) (v : Verdict) : Type 0 where
+pub record MarksLeft (doc lent after : List ℕ) (v : Result (Unit {0}) Refusal) : Type 0 where
   pub as_long : length after ≡ length lent
   pub beyond : (k : ℕ) → words doc ≤ k → get_or after k 0 ≡ get_or lent k 0
   pub all_marked : told v ≡ answers tt → (k : ℕ) → k < words doc → get_or after k 0 ≡ 1
@@ -103,15 +101,15 @@ pub record MarksNeverAsked (doc lent after other otherAfter : List ℕ) (r : Two
 -- ---- FJ: the questions, with any key list, any words as the key table and any count, at any cursor o with any index i
 -- and key x, and at any key byte k
 
-abbrev pub TextInside : List ℕ → Text → Type 0
-TextInside doc (Text.At place len) = place + len ≤ length doc
-TextInside doc (Text.Refused r) = Unit {0}
+abbrev pub TextInside : List ℕ → Result Span Refusal → Type 0
+TextInside doc (Ok s) = s.place + s.len ≤ length doc
+TextInside doc (Err r) = Unit {0}
 
 -- inside the bytes of its lender
-abbrev pub KeyInside : List ℕ → List ℕ → Key → Type 0
-KeyInside doc list (Key.Document place len past) = place + len ≤ length doc
-KeyInside doc list (Key.List place len past) = place + len ≤ length list
-KeyInside doc list (Key.Refused r) = Unit {0}
+abbrev pub KeyInside : List ℕ → List ℕ → Result Key Refusal → Type 0
+KeyInside doc list (Ok (Key.Document place len past)) = place + len ≤ length doc
+KeyInside doc list (Ok (Key.List place len past)) = place + len ≤ length list
+KeyInside doc list (Err r) = Unit {0}
 
 pub record FracturedFixed (doc list words : List ℕ) (count o i : ℕ) (x : List ℕ) (k : ℕ) (r : FracturedAnswers) : Type 0 where
   pub end_is : told_place r.end ≡ ask (Fj.end_of doc list words count o)
@@ -140,7 +138,7 @@ pub record BadList (n p : ℕ) (r : FracturedAnswers) : Type 0 where
 -- "01 says what the lent key table holds afterwards": each immediate key passed before the end or the refusal has its
 -- pair, all other words keep what they held, and the number of those pairs is given. A bad key list leaves the table as
 -- it was.
-pub record TableLeft (doc list lent after : List ℕ) (v : Verdict) (count : ℕ) : Type 0 where
+pub record TableLeft (doc list lent after : List ℕ) (v : Result (Unit {0}) Refusal) (count : ℕ) : Type 0 where
   pub verdict_is : told v ≡ verdict_of (fjVerdict (room_of lent) doc list)
   pub count_is : count ≡ length (kept_of (fjVerdict (room_of lent) doc list))
   pub as_long : length after ≡ length lent
@@ -154,7 +152,7 @@ pub record TableLeft (doc list lent after : List ℕ) (v : Verdict) (count : ℕ
 
 -- ---- BinaryJson, "with marks enough" (02, L4)
 
-pub record BinaryAccepts (doc lent : List ℕ) (v : Verdict) : Type 0 where
+pub record BinaryAccepts (doc lent : List ℕ) (v : Result (Unit {0}) Refusal) : Type 0 where
   pub accepted : (told v ≡ answers tt) ↔ ((words doc ≤ length lent) × ((t : Tree) × Means doc t))
   pub one_tree : (t u : Tree) → Means doc t → Means doc u → t ≡ u
 
@@ -170,8 +168,8 @@ pub record BinaryNodes (doc : List ℕ) (t : Tree) : Type 0 where
   pub scalars_reached : (u : Tree) → Subtree t u → NoContainer u → (c a : ℕ) × Leads doc c × EntryOf doc c a × EntryIs doc u a
 
 -- an answer that gives the text x as a part of the document
-abbrev pub Spans : List ℕ → Span → List ℕ → Type 0
-Spans doc r x = (p : Texts.Span) × (told_span r ≡ answers p) × (part doc p.place p.len ≡ x)
+abbrev pub Spans : List ℕ → Result Span Refusal → List ℕ → Type 0
+Spans doc r x = (p : Span) × (told_span r ≡ answers p) × (part doc p.place p.len ≡ x)
 
 -- asked at the container at c, an array answers so,
 pub record OfArray (doc : List ℕ) (c i : ℕ) (ts : Trees) (r : BinaryAnswers) : Type 0 where
@@ -224,7 +222,7 @@ pub record BinaryAnswered (doc : List ℕ) (t : Tree) (c i a s : ℕ) (r : Binar
 
 -- ---- FJ, "document and table" (02, L1)
 
-pub record FracturedAccepts (doc list lent : List ℕ) (v : Verdict) : Type 0 where
+pub record FracturedAccepts (doc list lent : List ℕ) (v : Result (Unit {0}) Refusal) : Type 0 where
   pub accepted : (told v ≡ answers tt) ↔ ((t : Tree) × (m : FjMeans doc list t) × (length m.keys ≤ room_of lent))
   pub one_tree : (t u : Tree) → FjMeans doc list t → FjMeans doc list u → t ≡ u
   -- the pairs of an accepted document are its immediate keys
@@ -319,7 +317,7 @@ pub record LookupsAgree (doc : List ℕ) (c : ℕ) (ms : Members) (x : List ℕ)
 -- ---- BinaryJson
 
 -- `check_binary`: the check
-pub record CheckBinary (doc lent after : List ℕ) (v : Verdict) : Type 0 where
+pub record CheckBinary (doc lent after : List ℕ) (v : Result (Unit {0}) Refusal) : Type 0 where
   pub fixed : told_marks v after ≡ verdict doc lent
   pub marks_left : MarksLeft doc lent after v
   pub accepts : BinaryAccepts doc lent v
@@ -356,7 +354,7 @@ pub record BinarySlotText (doc : List ℕ) (s : ℕ) (bytes : List ℕ) : Type 0
 -- ---- FJ
 
 -- `check_list`: the check of a key list alone
-pub record CheckList (list : List ℕ) (v : Verdict) : Type 0 where
+pub record CheckList (list : List ℕ) (v : Result (Unit {0}) Refusal) : Type 0 where
   pub fixed : told v ≡ ask (key_list list)
   pub accepted : (told v ≡ answers tt) ↔ ((names : Names) × Lists list names)
 

@@ -7,16 +7,16 @@ ghost use Rattle.claims.specs.Promises.{CheckBinary, CheckBinaryTwice, AskBinary
 ghost use Rattle.claims.specs.Promises.{CheckList, AskFractured, CheckAndAskFractured, FracturedStringText, FracturedKeyText, MemberKeyText};
 ghost use Rattle.claims.specs.Promises.{CompareTexts, BenchLine, BenchTotal};
 
-use binary_json::{
-    Bits, Looked, MemberAt, Scanned, Sized, SlotOffset, Span, TreeAt, TreeOffset, Typed,
-};
-use fractured_json::{Found, Key, Kind, Member, Number, Place, Text};
-use json_model::{Order, Verdict};
+use binary_json::{Looked, MemberAt, Sized, SlotOffset, TreeOffset, Typed};
+use fractured_json::{Checked, Key, Kind, Member, Number};
+use json_model::{Refusal, Span, Verdict};
+use std::cmp::Ordering;
 use text::Comparison;
 
 // ---- BinaryJson
 
 // The check.
+#[tactic(auto, using(crate::proofs::BinaryJson::binary_laws))]
 pub fn check_binary(doc: &[u8], marks: &mut [u8]) -> Verdict
     ensures { CheckBinary doc.now marks.old marks.new result }
 {
@@ -30,6 +30,7 @@ pub struct TwoVerdicts {
 }
 
 // The check, and the check with other marks.
+#[tactic(auto, using(crate::proofs::BinaryJson::binary_laws))]
 pub fn check_binary_twice(doc: &[u8], marks: &mut [u8], other: &mut [u8]) -> TwoVerdicts
     ensures { CheckBinaryTwice doc.now marks.old marks.new other.old other.new result }
 {
@@ -41,17 +42,18 @@ pub fn check_binary_twice(doc: &[u8], marks: &mut [u8], other: &mut [u8]) -> Two
 // What every question answers.
 #[derive(Drop)]
 pub struct BinaryAnswers {
-    pub sized: Sized,
-    pub element: TreeAt,
-    pub member: MemberAt,
-    pub typed: Typed,
-    pub container: TreeAt,
-    pub string: Span,
-    pub number: Bits,
-    pub slot: Span,
+    pub sized: Result<Sized, Refusal>,
+    pub element: Result<TreeOffset, Refusal>,
+    pub member: Result<MemberAt, Refusal>,
+    pub typed: Result<Typed, Refusal>,
+    pub container: Result<TreeOffset, Refusal>,
+    pub string: Result<Span, Refusal>,
+    pub number: Result<u64, Refusal>,
+    pub slot: Result<Span, Refusal>,
 }
 
 // Every question that answers no bytes: at a Meta, with an index; at an Entry; at a slot.
+#[tactic(auto, using(crate::proofs::BinaryJson::binary_laws))]
 pub fn ask_binary(
     doc: &[u8],
     meta: TreeOffset,
@@ -84,11 +86,12 @@ pub fn ask_binary(
 // What both lookups answer.
 #[derive(Drop)]
 pub struct BothLookups {
-    pub quick: Looked,
-    pub scan: Scanned,
+    pub quick: Result<Looked, Refusal>,
+    pub scan: Result<Option<TreeOffset>, Refusal>,
 }
 
 // Both lookups, at a Meta, with a key.
+#[tactic(auto, using(crate::proofs::BinaryJson::binary_laws))]
 pub fn look_up_binary(doc: &[u8], meta: TreeOffset, key: &[u8]) -> BothLookups
     ensures { LookUpBinary doc.now meta.0 key.now result }
 {
@@ -98,12 +101,14 @@ pub fn look_up_binary(doc: &[u8], meta: TreeOffset, key: &[u8]) -> BothLookups
 }
 
 // The two calls that answer a part of the document.
+#[tactic(auto, using(crate::proofs::BinaryJson::binary_laws))]
 pub fn binary_string_text(doc: &[u8], entry: TreeOffset) -> &[u8]
     ensures { BinaryStringText doc.now entry.0 result.now }
 {
     binary_json::string_text(doc, entry)
 }
 
+#[tactic(auto, using(crate::proofs::BinaryJson::binary_laws))]
 pub fn binary_slot_text(doc: &[u8], place: SlotOffset) -> &[u8]
     ensures { BinarySlotText doc.now place.0 result.now }
 {
@@ -113,6 +118,7 @@ pub fn binary_slot_text(doc: &[u8], place: SlotOffset) -> &[u8]
 // ---- Fractured JSON
 
 // The check of a key list.
+#[tactic(auto, using(crate::proofs::FracturedJson::fractured_laws))]
 pub fn check_list(list: &[u8]) -> Verdict
     ensures { CheckList list.now result }
 {
@@ -122,18 +128,19 @@ pub fn check_list(list: &[u8]) -> Verdict
 // What every question answers.
 #[derive(Drop)]
 pub struct FracturedAnswers {
-    pub end: Place,
-    pub kind: Kind,
-    pub number: Number,
-    pub string: Text,
-    pub element: Place,
-    pub member: Member,
-    pub first: Found,
-    pub key: Key,
+    pub end: Result<usize, Refusal>,
+    pub kind: Result<Kind, Refusal>,
+    pub number: Result<Number, Refusal>,
+    pub string: Result<Span, Refusal>,
+    pub element: Result<usize, Refusal>,
+    pub member: Result<Member, Refusal>,
+    pub first: Result<Option<usize>, Refusal>,
+    pub key: Result<Key, Refusal>,
 }
 
 // Every question that answers no bytes, with any key table and count: at a value, with an index and a key; at a key
 // byte.
+#[tactic(auto, using(crate::proofs::FracturedJson::fractured_laws))]
 pub fn ask_fractured(
     doc: &[u8],
     list: &[u8],
@@ -185,9 +192,7 @@ pub fn check_and_ask_fractured(
 ) -> FracturedChecked
     ensures { CheckAndAskFractured doc.now list.now keys.old keys.new at i x.now k result }
 {
-    let c = fractured_json::check(doc, list, keys);
-    let verdict = c.verdict;
-    let count = c.count;
+    let Checked { verdict, count } = fractured_json::check(doc, list, keys);
     let answers = ask_fractured(doc, list, keys, count, at, i, x, k);
     FracturedChecked {
         verdict,
@@ -197,12 +202,14 @@ pub fn check_and_ask_fractured(
 }
 
 // The two calls that answer a part of the document or of the key list.
+#[tactic(auto, using(crate::proofs::FracturedJson::fractured_laws))]
 pub fn fractured_string_text<'a>(doc: &'a [u8], list: &[u8], at: usize) -> &'a [u8]
     ensures { FracturedStringText doc.now list.now at result.now }
 {
     fractured_json::string_text(doc, list, at)
 }
 
+#[tactic(auto, using(crate::proofs::FracturedJson::fractured_laws))]
 pub fn fractured_key_text<'a>(
     doc: &'a [u8],
     list: &'a [u8],
@@ -216,6 +223,7 @@ pub fn fractured_key_text<'a>(
 }
 
 // The check, and the text of the key of a member.
+#[tactic(auto, using(crate::proofs::FracturedJson::fractured_laws))]
 pub fn member_key_text<'a>(
     doc: &'a [u8],
     list: &'a [u8],
@@ -229,8 +237,8 @@ pub fn member_key_text<'a>(
     let count = c.count;
     let m = fractured_json::member(doc, list, keys, count, at, j);
     match m {
-        Member::At { key, value: _ } => fractured_json::key_text(doc, list, keys, count, key),
-        Member::Refused(_) => &doc[..0],
+        Ok(Member { key, value: _ }) => fractured_json::key_text(doc, list, keys, count, key),
+        Err(_) => &doc[..0],
     }
 }
 
@@ -239,7 +247,7 @@ pub fn member_key_text<'a>(
 #[derive(Drop)]
 pub struct TextAnswers {
     pub compared: Comparison,
-    pub order: Order,
+    pub order: Ordering,
     pub same: bool,
     pub hash: u64,
 }

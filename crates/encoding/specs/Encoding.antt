@@ -4,12 +4,12 @@ use Rattle.std.specs.Prelude.{ℕ, List, [], ◌∷◌, ltb, length}
 use Rattle.std.proofs.lemmas.List.Edits.{sets}
 use Rattle.json_model.specs.Choose.{choose}
 use Rattle.json_model.specs.Reading.{Asked, halt, done}
-use Rattle.json_model.specs.Span.{Span}
+use Rattle.json_model.specs.declared.Span.{Span}
 use Rattle.binary_json_rules.specs.Questions as Binary
 use Rattle.binary_json_rules.specs.Lookup.{Found, entry, absent, Lookup}
 use Rattle.fractured_json_rules.specs.Questions as Fractured
-use Rattle.json_model.specs.declared.Order.{Order}
-use Rattle.json_model.specs.declared.Order.TheVariants.{Below, Equal, Above}
+use Rattle.std.specs.declared.cmp.Ordering.{Ordering}
+use Rattle.std.specs.declared.cmp.Ordering.TheVariants.{Less, Equal, Greater}
 
 pub record Coded : Type 0 where
   pub number : ℕ
@@ -109,11 +109,11 @@ checked_by count (done u s) = code 0 (count ∷ [])
 checked_by count (halt number place s) = code number (place ∷ count ∷ [])
 
 -- 0 below, 1 equal, 2 above
-abbrev pub order_number : Order → ℕ
-order_number Below = 0
+abbrev pub order_number : Ordering → ℕ
+order_number Less = 0
 order_number Equal = 1
-order_number Above = 2
+order_number Greater = 2
 
 -- the order of two texts, and the steps
-abbrev pub compared : Order → ℕ → Coded
+abbrev pub compared : Ordering → ℕ → Coded
 compared o steps = code 0 (order_number o ∷ steps ∷ [])

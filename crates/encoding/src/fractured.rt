@@ -1,12 +1,12 @@
-// What a Fractured JSON answer hands over, case by case.
+// What a Fractured JSON answer hands over, case by case. Each call has its own arm for a refusal, as in `binary`.
 ghost use Rattle.std.specs.Prelude.{◌≡◌, ◌≤◌, length};
 ghost use Rattle.json_model.specs.Reading.{told};
-ghost use Rattle.fractured_json_answers.specs.Told.{told_place, told_kind, told_number, told_text, told_member, told_found, told_key};
-ghost use Rattle.encoding.specs.Encoding.{hands, given, coded, one, place_and_length, kind, bits, key_and_value, value_at, key_at, checked_by};
+ghost use Rattle.fractured_json_answers.specs.Told.{told_place, told_kind, told_number, told_member, told_found, told_key};
+ghost use Rattle.encoding.specs.Encoding.{hands, given, coded, one, kind, bits, key_and_value, value_at, key_at, checked_by};
 
-use crate::words::{four, one, refuse, two};
-use fractured_json_answers::{Found, Key, Kind, Member, Number, Place, Text};
-use json_model::Verdict;
+use crate::words::{hand, refuse};
+use fractured_json_answers::{Key, Kind, Member, Number};
+use json_model::{Refusal, Verdict};
 
 // The number of pairs, after the place of a refusal.
 pub fn give_checked(out: &mut [u64], verdict: Verdict, count: usize) -> u32
@@ -14,96 +14,89 @@ pub fn give_checked(out: &mut [u64], verdict: Verdict, count: usize) -> u32
     ensures { hands result out.new ≡ given out.old (checked_by count (told verdict)) }
 {
     match verdict {
-        Verdict::Accepted => one(out, count as u64),
-        Verdict::Refused(r) => {
-            out[0] = r.place as u64;
-            out[1] = count as u64;
-            r.number
-        }
+        Ok(()) => hand(out, 0, [count as u64]),
+        Err(r) => hand(out, r.number, [r.place as u64, count as u64]),
     }
 }
 
 // A place.
-pub fn give_place(out: &mut [u64], answer: Place) -> u32
+pub fn give_place(out: &mut [u64], answer: Result<usize, Refusal>) -> u32
     requires { 1 ≤ length out.old }
     ensures { hands result out.new ≡ given out.old (coded one (told_place answer)) }
 {
     match answer {
-        Place::At(n) => one(out, n as u64),
-        Place::Refused(r) => refuse(out, r),
+        Ok(n) => hand(out, 0, [n as u64]),
+        Err(r) => refuse(out, r),
     }
 }
 
 // A kind, and the length of a string or container.
-pub fn give_kind(out: &mut [u64], answer: Kind) -> u32
+pub fn give_kind(out: &mut [u64], answer: Result<Kind, Refusal>) -> u32
     requires { 2 ≤ length out.old }
     ensures { hands result out.new ≡ given out.old (coded kind (told_kind answer)) }
 {
     match answer {
-        Kind::Null => one(out, 0),
-        Kind::False => one(out, 1),
-        Kind::True => one(out, 2),
-        Kind::Number => one(out, 3),
-        Kind::String(n) => two(out, 4, n as u64),
-        Kind::Object(n) => two(out, 5, n as u64),
-        Kind::Array(n) => two(out, 6, n as u64),
-        Kind::Refused(r) => refuse(out, r),
+        Ok(Kind::Null) => hand(out, 0, [0]),
+        Ok(Kind::False) => hand(out, 0, [1]),
+        Ok(Kind::True) => hand(out, 0, [2]),
+        Ok(Kind::Number) => hand(out, 0, [3]),
+        Ok(Kind::String(n)) => hand(out, 0, [4, n as u64]),
+        Ok(Kind::Object(n)) => hand(out, 0, [5, n as u64]),
+        Ok(Kind::Array(n)) => hand(out, 0, [6, n as u64]),
+        Err(r) => refuse(out, r),
     }
 }
 
 // Type byte and 64 bits.
-pub fn give_number(out: &mut [u64], answer: Number) -> u32
+pub fn give_number(out: &mut [u64], answer: Result<Number, Refusal>) -> u32
     requires { 2 ≤ length out.old }
     ensures { hands result out.new ≡ given out.old (coded bits (told_number answer)) }
 {
     match answer {
-        Number::Is { type_byte, bits } => two(out, type_byte as u64, bits),
-        Number::Refused(r) => refuse(out, r),
-    }
-}
-
-// Place and length of a text.
-pub fn give_text(out: &mut [u64], answer: Text) -> u32
-    requires { 2 ≤ length out.old }
-    ensures { hands result out.new ≡ given out.old (coded place_and_length (told_text answer)) }
-{
-    match answer {
-        Text::At { place, len } => two(out, place as u64, len as u64),
-        Text::Refused(r) => refuse(out, r),
+        Ok(Number { type_byte, bits }) => hand(out, 0, [type_byte as u64, bits]),
+        Err(r) => refuse(out, r),
     }
 }
 
 // Key byte and value.
-pub fn give_member(out: &mut [u64], answer: Member) -> u32
+pub fn give_member(out: &mut [u64], answer: Result<Member, Refusal>) -> u32
     requires { 2 ≤ length out.old }
     ensures { hands result out.new ≡ given out.old (coded key_and_value (told_member answer)) }
 {
     match answer {
-        Member::At { key, value } => two(out, key as u64, value as u64),
-        Member::Refused(r) => refuse(out, r),
+        Ok(Member { key, value }) => hand(out, 0, [key as u64, value as u64]),
+        Err(r) => refuse(out, r),
     }
 }
 
 // 1 and the value, or 0.
-pub fn give_found(out: &mut [u64], answer: Found) -> u32
+pub fn give_found(out: &mut [u64], answer: Result<Option<usize>, Refusal>) -> u32
     requires { 2 ≤ length out.old }
     ensures { hands result out.new ≡ given out.old (coded value_at (told_found answer)) }
 {
     match answer {
-        Found::At(n) => two(out, 1, n as u64),
-        Found::Absent => one(out, 0),
-        Found::Refused(r) => refuse(out, r),
+        Ok(Some(n)) => hand(out, 0, [1, n as u64]),
+        Ok(None) => hand(out, 0, [0]),
+        Err(r) => refuse(out, r),
     }
 }
 
 // Lender, place and length of a key's text, and where its value starts.
-pub fn give_key(out: &mut [u64], answer: Key) -> u32
+pub fn give_key(out: &mut [u64], answer: Result<Key, Refusal>) -> u32
     requires { 4 ≤ length out.old }
     ensures { hands result out.new ≡ given out.old (coded key_at (told_key answer)) }
 {
     match answer {
-        Key::Document { place, len, past } => four(out, 0, place as u64, len as u64, past as u64),
-        Key::List { place, len, past } => four(out, 1, place as u64, len as u64, past as u64),
-        Key::Refused(r) => refuse(out, r),
+        Ok(Key::Document { place, len, past }) => hand(
+            out,
+            0,
+            [0, place as u64, len as u64, past as u64],
+        ),
+        Ok(Key::List { place, len, past }) => hand(
+            out,
+            0,
+            [1, place as u64, len as u64, past as u64],
+        ),
+        Err(r) => refuse(out, r),
     }
 }

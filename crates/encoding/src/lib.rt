@@ -1,4 +1,4 @@
-// Answers as numbers: what is returned, and what is written over the lent words.
+// Answers as numbers of the C interface: what is returned, and what is written over the lent words.
 #![tactic(auto)]
 
 pub mod binary;

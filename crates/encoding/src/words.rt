@@ -7,42 +7,14 @@ use json_model::Refusal;
 // What is returned where too few words are lent.
 pub const TOO_FEW: u32 = 255;
 
-pub fn one(out: &mut [u64], a: u64) -> u32
-    requires { 1 ≤ length out.old }
-    ensures { hands result out.new ≡ given out.old (code 0 (a ∷ [])) }
+// Writes the values, and answers the number: 0, or that of a refusal.
+#[tactic(auto, using(crate::proofs::WordLaws::word_laws))]
+pub fn hand<const N: usize>(out: &mut [u64], number: u32, values: [u64; N]) -> u32
+    requires { N ≤ length out.old }
+    ensures { hands result out.new ≡ given out.old (code number values.entry) }
 {
-    out[0] = a;
-    0
-}
-
-pub fn two(out: &mut [u64], a: u64, b: u64) -> u32
-    requires { 2 ≤ length out.old }
-    ensures { hands result out.new ≡ given out.old (code 0 (a ∷ b ∷ [])) }
-{
-    out[0] = a;
-    out[1] = b;
-    0
-}
-
-pub fn three(out: &mut [u64], a: u64, b: u64, c: u64) -> u32
-    requires { 3 ≤ length out.old }
-    ensures { hands result out.new ≡ given out.old (code 0 (a ∷ b ∷ c ∷ [])) }
-{
-    out[0] = a;
-    out[1] = b;
-    out[2] = c;
-    0
-}
-
-pub fn four(out: &mut [u64], a: u64, b: u64, c: u64, d: u64) -> u32
-    requires { 4 ≤ length out.old }
-    ensures { hands result out.new ≡ given out.old (code 0 (a ∷ b ∷ c ∷ d ∷ [])) }
-{
-    out[0] = a;
-    out[1] = b;
-    out[2] = c;
-    out[3] = d;
-    0
+    out[..N].copy_from_slice(&values);
+    number
 }
 
 // A refusal: its place is written, its number answered.
@@ -50,6 +22,5 @@ pub fn refuse(out: &mut [u64], r: Refusal) -> u32
     requires { 1 ≤ length out.old }
     ensures { hands result out.new ≡ given out.old (code r.number (r.place ∷ [])) }
 {
-    out[0] = r.place as u64;
-    r.number
+    hand(out, r.number, [r.place as u64])
 }

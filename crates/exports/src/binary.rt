@@ -1,4 +1,6 @@
 // The BinaryJson reader for callers in C: the check, the questions and both lookups, over numbers and lent slices.
+#![tactic(auto, using(crate::proofs::Handing::handing_laws))]
+
 ghost use Rattle.std.specs.Prelude.{◌≡◌, ltb, length};
 ghost use Rattle.json_model.specs.Choose.{choose};
 ghost use Rattle.json_model.specs.Reading.{ask, kept_of, verdict_of};
@@ -16,7 +18,7 @@ pub extern "C" fn bj_check(doc: &[u8], marks: &mut [u8], out: &mut [u64]) -> u32
     ensures out_after { hands result out.new ≡ handed 1 out.old (coded nothing (verdict_of (verdict doc.now marks.old))) }
     ensures marks_after { marks.new ≡ choose (ltb (length out.old) 1) marks.old (kept_of (verdict doc.now marks.old)) }
 {
-    if out.len() < 1 {
+    if out.is_empty() {
         return TOO_FEW;
     }
     let v = binary_json::check(doc, marks);
@@ -39,7 +41,7 @@ pub extern "C" fn bj_kind_and_size(doc: &[u8], tree: usize, out: &mut [u64]) -> 
 pub extern "C" fn bj_element(doc: &[u8], tree: usize, i: usize, out: &mut [u64]) -> u32
     ensures { hands result out.new ≡ handed 1 out.old (coded one (ask (element doc.now tree i))) }
 {
-    if out.len() < 1 {
+    if out.is_empty() {
         return TOO_FEW;
     }
     encoding::binary::give_tree(out, binary_json::element(doc, TreeOffset(tree), i))
@@ -61,7 +63,7 @@ pub extern "C" fn bj_member(doc: &[u8], tree: usize, j: usize, out: &mut [u64]) 
 pub extern "C" fn bj_entry_type(doc: &[u8], tree: usize, out: &mut [u64]) -> u32
     ensures { hands result out.new ≡ handed 1 out.old (coded one (ask (entry_type doc.now tree))) }
 {
-    if out.len() < 1 {
+    if out.is_empty() {
         return TOO_FEW;
     }
     encoding::binary::give_type(out, binary_json::entry_type(doc, TreeOffset(tree)))
@@ -72,7 +74,7 @@ pub extern "C" fn bj_entry_type(doc: &[u8], tree: usize, out: &mut [u64]) -> u32
 pub extern "C" fn bj_container(doc: &[u8], tree: usize, out: &mut [u64]) -> u32
     ensures { hands result out.new ≡ handed 1 out.old (coded one (ask (container_at doc.now tree))) }
 {
-    if out.len() < 1 {
+    if out.is_empty() {
         return TOO_FEW;
     }
     encoding::binary::give_tree(out, binary_json::container(doc, TreeOffset(tree)))
@@ -86,7 +88,7 @@ pub extern "C" fn bj_string(doc: &[u8], tree: usize, out: &mut [u64]) -> u32
     if out.len() < 2 {
         return TOO_FEW;
     }
-    encoding::binary::give_span(out, binary_json::string(doc, TreeOffset(tree)))
+    encoding::texts::give_span(out, binary_json::string(doc, TreeOffset(tree)))
 }
 
 // The 64 bits of the number that an Entry names.
@@ -94,7 +96,7 @@ pub extern "C" fn bj_string(doc: &[u8], tree: usize, out: &mut [u64]) -> u32
 pub extern "C" fn bj_number(doc: &[u8], tree: usize, out: &mut [u64]) -> u32
     ensures { hands result out.new ≡ handed 1 out.old (coded one (ask (number_at doc.now tree))) }
 {
-    if out.len() < 1 {
+    if out.is_empty() {
         return TOO_FEW;
     }
     encoding::binary::give_bits(out, binary_json::number(doc, TreeOffset(tree)))
@@ -108,7 +110,7 @@ pub extern "C" fn bj_slot(doc: &[u8], slot: usize, out: &mut [u64]) -> u32
     if out.len() < 2 {
         return TOO_FEW;
     }
-    encoding::binary::give_span(out, binary_json::slot(doc, SlotOffset(slot)))
+    encoding::texts::give_span(out, binary_json::slot(doc, SlotOffset(slot)))
 }
 
 // The quick lookup of a key in the object at a Meta.

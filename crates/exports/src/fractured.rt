@@ -1,4 +1,6 @@
 // The Fractured JSON reader for callers in C: the checks and the questions, over numbers and lent slices.
+#![tactic(auto, using(crate::proofs::Handing::handing_laws))]
+
 ghost use Rattle.std.specs.Prelude.{◌≡◌, ltb, length};
 ghost use Rattle.json_model.specs.Choose.{choose};
 ghost use Rattle.json_model.specs.Reading.{ask};
@@ -8,13 +10,14 @@ ghost use Rattle.fractured_json_rules.specs.Questions.{end_of, kind as kind_at, 
 ghost use Rattle.encoding.specs.Encoding.{hands, handed, coded, nothing, one, place_and_length, kind, bits, key_and_value, value_at, key_at as key, checked_by};
 
 use encoding::words::TOO_FEW;
+use fractured_json::Checked;
 
 // The check of a key list.
 #[unsafe(no_mangle)]
 pub extern "C" fn fj_check_list(list: &[u8], out: &mut [u64]) -> u32
     ensures { hands result out.new ≡ handed 1 out.old (coded nothing (ask (key_list list.now))) }
 {
-    if out.len() < 1 {
+    if out.is_empty() {
         return TOO_FEW;
     }
     encoding::binary::give_verdict(out, fractured_json::check_list(list))
@@ -29,9 +32,8 @@ pub extern "C" fn fj_check(doc: &[u8], list: &[u8], keys: &mut [u32], out: &mut 
     if out.len() < 2 {
         return TOO_FEW;
     }
-    let c = fractured_json::check(doc, list, keys);
-    let verdict = c.verdict;
-    encoding::fractured::give_checked(out, verdict, c.count)
+    let Checked { verdict, count } = fractured_json::check(doc, list, keys);
+    encoding::fractured::give_checked(out, verdict, count)
 }
 
 // Where a value ends.
@@ -46,7 +48,7 @@ pub extern "C" fn fj_end(
 ) -> u32
     ensures { hands result out.new ≡ handed 1 out.old (coded one (ask (end_of doc.now list.now keys.now count at))) }
 {
-    if out.len() < 1 {
+    if out.is_empty() {
         return TOO_FEW;
     }
     encoding::fractured::give_place(out, fractured_json::end(doc, list, keys, count, at))
@@ -82,7 +84,7 @@ pub extern "C" fn fj_string(doc: &[u8], list: &[u8], at: usize, out: &mut [u64])
     if out.len() < 2 {
         return TOO_FEW;
     }
-    encoding::fractured::give_text(out, fractured_json::string(doc, list, at))
+    encoding::texts::give_span(out, fractured_json::string(doc, list, at))
 }
 
 // Element i of an array.
@@ -98,7 +100,7 @@ pub extern "C" fn fj_element(
 ) -> u32
     ensures { hands result out.new ≡ handed 1 out.old (coded one (ask (element_at doc.now list.now keys.now count at i))) }
 {
-    if out.len() < 1 {
+    if out.is_empty() {
         return TOO_FEW;
     }
     encoding::fractured::give_place(out, fractured_json::element(doc, list, keys, count, at, i))

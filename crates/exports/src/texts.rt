@@ -1,4 +1,6 @@
 // The comparing of two texts for callers in C.
+#![tactic(auto, using(crate::proofs::Handing::handing_laws))]
+
 ghost use Rattle.std.specs.Prelude.{◌≡◌};
 ghost use Rattle.json_model.specs.Texts.{compare_texts};
 ghost use Rattle.text.specs.Steps.{compare_steps};

@@ -1,8 +1,8 @@
-// A reader of Fractured JSON: the checks of a key list and of a document with a lent key table, and the questions. Each is
-// proved equal to its rule in `fractured_json_rules`; the crate `claims` says what that makes of their answers.
+// A reader of Fractured JSON: the checks of a key list and of a document with a lent key table, and the questions. Each
+// is proved equal to its rule in `fractured_json_rules`; the crate `claims` says what that makes of their answers.
 #![tactic(auto)]
 
-pub use fractured_json_answers::{Found, Key, Kind, Member, Number, Place, Text};
+pub use fractured_json_answers::{Key, Kind, Member, Number};
 pub use fractured_json_check::answers::Checked;
 pub use fractured_json_check::check;
 pub use fractured_json_containers::questions::{element, end, first_member, key, key_text, member};

@@ -7,10 +7,10 @@ use borrow.Author.Rules.{rules}
 use lib.Dec.{eqb, eqb_refl}
 use lib.ListN.{length, replicate}
 use Rattle.json_model.specs.Limits.{deepest}
-use Rattle.json_model.specs.Reading.{Outcome, halt, done, Asked, ask, answers, refuses, answer, follow, ◌>>=◌, need, told}
+use Rattle.json_model.specs.Reading.{Outcome, halt, done, Asked, ask, answers, refuses, answer, follow, ◌>>=◌, need}
 use Rattle.json_model.specs.declared.Refusal.{Refusal}
-use Rattle.json_model.specs.declared.Verdict.{Verdict}
-use Rattle.json_model.proofs.Reading.{then, stops, need_yes, need_no, carry, carry_then, carry_need}
+use Rattle.std.specs.Prelude.{Result, Ok, Err}
+use Rattle.json_model.proofs.Reading.{unlike, then, stops, need_yes, need_no, carry, carry_then, carry_need}
 use Rattle.json_model.proofs.Sizes.{word_holds}
 use Rattle.fractured_json_rules.specs.Meaning.{Keys}
 use Rattle.fractured_json_rules.specs.KeyList.{names_from, count_in, key_list}
@@ -19,11 +19,9 @@ use Rattle.fractured_json_rules.specs.KeyTable.{room_of, stored, Checked, checke
 use Rattle.fractured_json_values.specs.Opened.{entry}
 use Rattle.fractured_json_keys.proofs.Chained.{all_zero}
 use Rattle.fractured_json_values.proofs.Carried.{carry_header}
-use Rattle.fractured_json_values.proofs.Headers.{unlike, header_opens}
+use Rattle.fractured_json_values.proofs.Headers.{header_opens}
 use Rattle.fractured_json_check.specs.Told.{told_checked}
 use Rattle.fractured_json_check.specs.Table.{Table, table, key_in, out, Walked, walked_by, walked, told_walk}
-use Rattle.fractured_json_check.specs.declared.answers.Checked.{Checked as Answer}
-use Rattle.fractured_json_check.specs.declared.walk.Walk.{Walk}
 use Rattle.fractured_json_check.proofs.Stored.{walk_is}
 
 -- ---- the walk from the root, with links that are all 0
@@ -37,9 +35,9 @@ one_entry doc names s = go (value (key_in doc names) deepest doc 3 s)
     go (halt n p t) = refl
     go (done a t) = refl
 
-pub root_walked : (doc : List ℕ) (names : ℕ) (words : List ℕ) (n : ℕ) (w : Walk) (after linked : List ℕ)
-    → out w after linked ≡ in_turn (entry false (key_in doc names) (value (key_in doc names) deepest doc)) 1 3 (table 0 words (replicate n 0)) → told_walk w after ≡ walked doc names words
-root_walked doc names words n w after linked e = walk_is doc names words (replicate n 0) (all_zero n) w after linked (e ∙ one_entry doc names _)
+pub root_walked : (doc : List ℕ) (names : ℕ) (words : List ℕ) (n first : ℕ) (w : Result ℕ Refusal) (count : ℕ) (after linked : List ℕ)
+    → out w count after linked ≡ in_turn (entry false (key_in doc names) (value (key_in doc names) deepest doc)) 1 3 (table first words (replicate n 0)) → first ≡ 0 → told_walk w count after ≡ walked doc names words
+root_walked doc names words n first w count after linked e z = walk_is doc names words (replicate n 0) (all_zero n) w count after linked (rw z at e ∙ one_entry doc names _)
 
 pub ruleset root_laws = (root_walked, rules)
 
@@ -62,37 +60,39 @@ closes words len (done a ks) = go (eqb a len)
     go false = refl
 
 -- the header passes, and so every place and length fits a word of the key table
-pub document_short : (doc : List ℕ) (v : Verdict) → told v ≡ ask (header doc) → v ≡ Verdict.Accepted → length doc < 2 ^ 32
-document_short doc v h e = let o = header_opens doc (sym h ∙ ap told e) in word_holds (length doc) o.short
+pub document_short : (doc : List ℕ) → answers tt ≡ ask (header doc) → length doc < 2 ^ 32
+document_short doc h = let o = header_opens doc (sym h) in word_holds (length doc) o.short
 
-module _ (doc : List ℕ) (names : ℕ) (words : List ℕ) (v : Verdict) (h : told v ≡ ask (header doc)) where
-  pub header_refused : (r : Refusal) (c : Answer) → v ≡ Verdict.Refused r → told c.verdict ≡ refuses r.number r.place → c.count ≡ 0 → told_checked c words ≡ checked_by words (document (room_of words) doc names [])
+module _ (doc : List ℕ) (names : ℕ) (words : List ℕ) where
+  pub header_refused : (r : Refusal) (count : ℕ) → refuses r.number r.place ≡ ask (header doc) → count ≡ 0 → told_checked (record { verdict = Err r; count = count }) words ≡ checked_by words (document (room_of words) doc names [])
   unfolding document stored
-  header_refused r c e a b = rw (a, b) (ap (checked_by words) (sym (stops _ _ _ (carry_header doc [] ∙ ap (carry []) (sym h ∙ ap told e)))))
+  header_refused r count h z = rw z (ap (checked_by words) (sym (stops _ _ _ (carry_header doc [] ∙ ap (carry []) (sym h)))))
 
-  module _ (e : v ≡ Verdict.Accepted) (w : Walk) (after : List ℕ) (ws : told_walk w after ≡ walked doc names words) where
+  module _ (h : answers tt ≡ ask (header doc)) (w : Result ℕ Refusal) (count : ℕ) (after : List ℕ) (ws : told_walk w count after ≡ walked doc names words) where
     goes_on : document (room_of words) doc names [] ≡ (value (check_key (room_of words) doc names) deepest doc 3 >>= λ past. need (eqb past (length doc)) 42 past) []
     unfolding document
-    goes_on = then _ _ _ (carry_header doc [] ∙ ap (carry []) (sym h ∙ ap told e))
+    goes_on = then _ _ _ (carry_header doc [] ∙ ap (carry []) (sym h))
 
-    checked_is : checked_by words (document (room_of words) doc names []) ≡ closed (length doc) (told_walk w after)
+    checked_is : checked_by words (document (room_of words) doc names []) ≡ closed (length doc) (told_walk w count after)
     unfolding ◌>>=◌
     checked_is = ap (checked_by words) goes_on ∙ (closes words (length doc) (value (check_key (room_of words) doc names) deepest doc 3 []) ∙ ap (closed (length doc)) (sym ws))
 
-    pub walk_refused : (r : Refusal) (n : ℕ) (c : Answer) → w ≡ Walk.Refused n r → told c.verdict ≡ refuses r.number r.place → c.count ≡ n → told_checked c after ≡ checked_by words (document (room_of words) doc names [])
+  module _ (h : answers tt ≡ ask (header doc)) (count : ℕ) (after : List ℕ) where
+    pub walk_refused : (r : Refusal) (v : Result (Unit {0}) Refusal) → told_walk (Err r) count after ≡ walked doc names words → v ≡ Err r
+        → told_checked (record { verdict = v; count = count }) after ≡ checked_by words (document (room_of words) doc names [])
     unfolding closed
-    walk_refused r n c q a b = rw (a, b) (sym (checked_is ∙ ap (λ x. closed (length doc) (told_walk x after)) q))
+    walk_refused r v ws e = rw e (sym (checked_is h (Err r) count after ws))
 
-    module _ (a c : ℕ) (q : w ≡ Walk.End c a) where
-      ends : checked_by words (document (room_of words) doc names []) ≡ record { verdict = ask (need (eqb a (length doc)) 42 a); count = c; words = after }
+    module _ (a : ℕ) (ws : told_walk (Ok a) count after ≡ walked doc names words) where
+      ends : checked_by words (document (room_of words) doc names []) ≡ record { verdict = ask (need (eqb a (length doc)) 42 a); count = count; words = after }
       unfolding closed
-      ends = checked_is ∙ ap (λ x. closed (length doc) (told_walk x after)) q
+      ends = checked_is h (Ok a) count after ws
 
-      pub bytes_after : (a ≡ length doc → ⊥) → (z : Answer) → told z.verdict ≡ refuses 42 a → z.count ≡ c → told_checked z after ≡ checked_by words (document (room_of words) doc names [])
-      bytes_after n z x y = rw (x, y) (sym (ends ∙ ap (λ x. record { verdict = x; count = c; words = after }) (need_no _ _ _ _ (unlike n))))
+      pub bytes_after : (v : Result (Unit {0}) Refusal) → (a ≡ length doc → ⊥) → v ≡ Err (record { place = a; number = 42 }) → told_checked (record { verdict = v; count = count }) after ≡ checked_by words (document (room_of words) doc names [])
+      bytes_after v n e = rw e (sym (ends ∙ ap (λ x. record { verdict = x; count = count; words = after }) (need_no _ _ _ _ (unlike n))))
 
-      pub accepts : a ≡ length doc → record { verdict = answers tt; count = c; words = after } ≡ checked_by words (document (room_of words) doc names [])
-      accepts n = sym (ends ∙ ap (λ x. record { verdict = x; count = c; words = after }) (need_yes _ _ _ _ (rw n (eqb_refl (length doc)))))
+      pub accepts : a ≡ length doc → record { verdict = answers tt; count = count; words = after } ≡ checked_by words (document (room_of words) doc names [])
+      accepts n = sym (ends ∙ ap (λ x. record { verdict = x; count = count; words = after }) (need_yes _ _ _ _ (rw n (eqb_refl (length doc)))))
 
 pub ruleset document_laws = (document_short, header_refused, walk_refused, bytes_after, accepts, rules)
 
@@ -114,13 +114,13 @@ pub bad_list : (doc list words : List ℕ) (n p : ℕ) → ask (key_list list) �
 unfolding check stored
 bad_list doc list words n p e = ap (checked_by words) (stops _ _ _ (carry_list list [] ∙ ap (carry []) e))
 
-module _ (doc list words : List ℕ) (v : Verdict) (h : told v ≡ ask (key_list list)) where
-  pub list_refused : (r : Refusal) (c : Answer) → v ≡ Verdict.Refused r → told c.verdict ≡ refuses r.number r.place → c.count ≡ 0 → told_checked c words ≡ checked doc list words
-  list_refused r c e a b = rw (a, b) (sym (bad_list doc list words r.number r.place (sym h ∙ ap told e)))
+module _ (doc list words : List ℕ) where
+  pub list_refused : (r : Refusal) (count : ℕ) → refuses r.number r.place ≡ ask (key_list list) → count ≡ 0 → told_checked (record { verdict = Err r; count = count }) words ≡ checked doc list words
+  list_refused r count h z = rw z (sym (bad_list doc list words r.number r.place (sym h)))
 
-  pub list_passed : v ≡ Verdict.Accepted → (n : ℕ) (c : Answer) (after : List ℕ) → n ≡ count_in list → told_checked c after ≡ checked_by words (document (room_of words) doc n [])
-      → told_checked c after ≡ checked doc list words
+  pub list_passed : (names : ℕ) (v : Result (Unit {0}) Refusal) (count : ℕ) (after : List ℕ) → answers tt ≡ ask (key_list list) → names ≡ count_in list
+      → told_checked (record { verdict = v; count = count }) after ≡ checked_by words (document (room_of words) doc names []) → told_checked (record { verdict = v; count = count }) after ≡ checked doc list words
   unfolding check
-  list_passed e n c after q a = a ∙ rw q (ap (checked_by words) (sym (then _ _ _ (carry_list list [] ∙ ap (carry []) (sym h ∙ ap told e)))))
+  list_passed names v count after h q a = a ∙ rw q (ap (checked_by words) (sym (then _ _ _ (carry_list list [] ∙ ap (carry []) (sym h)))))
 
 pub ruleset check_laws = (list_refused, list_passed, rules)

@@ -24,8 +24,8 @@ use Rattle.fractured_json_keys.specs.Passed.{keys_from, keys_in, with_pair}
 use Rattle.fractured_json_keys.specs.Chains.{buckets_in, bucket_of, seen_in, linked_in}
 use Rattle.fractured_json_keys.proofs.Chained.{Linked, no_links, seen_met, linked_more}
 use Rattle.fractured_json_check.specs.Table.{Table, table, fresh_key_in, new_key_in, old_key_in, key_in, out, walked_by, walked, told_walk}
-use Rattle.fractured_json_check.specs.declared.walk.Walk.{Walk}
-use Rattle.fractured_json_check.specs.declared.walk.Walk.TheVariants.{End, Refused}
+use Rattle.json_model.specs.declared.Refusal.{Refusal}
+use Rattle.std.specs.Prelude.{Result, Ok, Err}
 use Rattle.fractured_json_values.proofs.Carried.{carry_byte, carry_key_number, carry_opened}
 use Rattle.fractured_json_values.proofs.Walks.{on_opened, value_opened}
 
@@ -214,18 +214,18 @@ module _ (words doc : List ℕ) (names : ℕ) where
       alike_by (value_opened doc o _ _ ks) (value_opened doc o _ _ t)
       (sim_then Tied Tied Tied Tied _ _ _ _ (sim_opened o) (sim_on _ _ _ _ (λ n. sim_turns _ _ (sim_value l) n.is n.past) (λ n. sim_turns _ _ (sim_member _ _ (sim_value l)) n.is n.past)) ks t r)
 
-  same_walk : (r : Outcome Keys ℕ) (w : Walk) (after links : List ℕ) → Alike r (out w after links) → told_walk w after ≡ walked_by words r
-  same_walk (halt n p ks) (Refused c q) after links h = rw (h.0, h.1, h.2.counts, h.2.holds)
-  same_walk (halt n p ks) (End c a) after links h = absurd h
-  same_walk (done a ks) (Refused c q) after links h = absurd h
-  same_walk (done a ks) (End c b) after links h = rw (h.0, h.1.counts, h.1.holds)
+  same_walk : (r : Outcome Keys ℕ) (w : Result ℕ Refusal) (count : ℕ) (after links : List ℕ) → Alike r (out w count after links) → told_walk w count after ≡ walked_by words r
+  same_walk (halt n p ks) (Err q) c after links h = rw (h.0, h.1, h.2.counts, h.2.holds)
+  same_walk (halt n p ks) (Ok a) c after links h = absurd h
+  same_walk (done a ks) (Err q) c after links h = absurd h
+  same_walk (done a ks) (Ok b) c after links h = rw (h.0, h.1.counts, h.1.holds)
 
 -- the walk over the table from the root on gives the rules' end, number of pairs and words
-pub walk_is : (doc : List ℕ) (names : ℕ) (words links : List ℕ) → ((i : ℕ) → get_or links i 0 ≡ 0) → (w : Walk) (after linked : List ℕ)
-    → out w after linked ≡ value (key_in doc names) deepest doc 3 (table 0 words links) → told_walk w after ≡ walked doc names words
+pub walk_is : (doc : List ℕ) (names : ℕ) (words links : List ℕ) → ((i : ℕ) → get_or links i 0 ≡ 0) → (w : Result ℕ Refusal) (count : ℕ) (after linked : List ℕ)
+    → out w count after linked ≡ value (key_in doc names) deepest doc 3 (table 0 words links) → told_walk w count after ≡ walked doc names words
 unfolding stored
-walk_is doc names words links z w after linked e =
-    same_walk words doc names (value (check_key (room_of words) doc names) deepest doc 3 []) w after linked (rw e (sim_value words doc names deepest 3 [] (table 0 words links) start))
+walk_is doc names words links z w count after linked e =
+    same_walk words doc names (value (check_key (room_of words) doc names) deepest doc 3 []) w count after linked (rw e (sim_value words doc names deepest 3 [] (table 0 words links) start))
   where
     start : Tied words doc names [] (table 0 words links)
     start = record { counts = refl; holds = refl; roomy = omega arith; linked = no_links doc words links z }

@@ -1,17 +1,16 @@
 -- The check as the code makes it: its state is the number of keys passed, the words of the lent table and the links of the
 -- chains. proofs/Stored.antt shows that it is the rules' check, which keeps the keys themselves.
-use Rattle.std.specs.Prelude.{ℕ, ◌+◌, Bool, true, false, not, List, [], ltb, length}
+use Rattle.std.specs.Prelude.{ℕ, ◌+◌, Bool, true, false, not, List, [], ltb, length, Result, Ok, Err}
 use Rattle.json_model.specs.Bytes.{part}
 use Rattle.json_model.specs.Limits.{deepest}
-use Rattle.json_model.specs.Reading.{Outcome, halt, done, Reading, Asked, answers, refuses, answer, kept, keep, ◌>>=◌, ◌>>◌, need, kept_of, verdict_of}
+use Rattle.json_model.specs.Reading.{Outcome, halt, done, Reading, Asked, answer, kept, keep, ◌>>=◌, ◌>>◌, need, kept_of, verdict_of, told_by}
+use Rattle.json_model.specs.declared.Refusal.{Refusal}
 use Rattle.fractured_json_rules.specs.ByteTables.{key_form_of}
 use Rattle.fractured_json_rules.specs.Meaning.{Keys}
 use Rattle.fractured_json_rules.specs.Verdict.{byte_at, text_at, Numeral, value, key_by, listed_key, check_key}
 use Rattle.fractured_json_rules.specs.KeyTable.{room_of, stored}
 use Rattle.fractured_json_keys.specs.Passed.{with_pair}
 use Rattle.fractured_json_keys.specs.Chains.{buckets_in, bucket_of, seen_in, linked_in}
-use Rattle.fractured_json_check.specs.declared.walk.Walk.{Walk}
-use Rattle.fractured_json_check.specs.declared.walk.Walk.TheVariants.{End, Refused}
 
 pub record Table : Type 0 where
   pub count : ℕ
@@ -55,10 +54,10 @@ unfoldable pub keyed_in : Bool → List ℕ → ℕ → ℕ → Reading Table �
 keyed_in true doc names o = key_in doc names o
 keyed_in false doc names o = answer o
 
--- what the walk answers, with the words and links that it left
-abbrev pub out : Walk → List ℕ → List ℕ → Outcome Table ℕ
-out (End count at) words links = done at (table count words links)
-out (Refused count r) words links = halt r.number r.place (table count words links)
+-- what the walk answers, with the number of keys passed, and the words and links that it left
+abbrev pub out : Result ℕ Refusal → ℕ → List ℕ → List ℕ → Outcome Table ℕ
+out (Ok at) count words links = done at (table count words links)
+out (Err r) count words links = halt r.number r.place (table count words links)
 
 -- ---- the walk over the root value
 
@@ -76,6 +75,5 @@ abbrev pub walked : List ℕ → ℕ → List ℕ → Walked
 walked doc names words = walked_by words (value (check_key (room_of words) doc names) deepest doc 3 [])
 
 -- by the code
-abbrev pub told_walk : Walk → List ℕ → Walked
-told_walk (End count at) words = record { end = answers at; count = count; words = words }
-told_walk (Refused count r) words = record { end = refuses r.number r.place; count = count; words = words }
+abbrev pub told_walk : Result ℕ Refusal → ℕ → List ℕ → Walked
+told_walk r count words = record { end = told_by (λ at. at) r; count = count; words = words }

@@ -1,184 +1,127 @@
-// A key as the check reads it: an immediate key has its pair in the lent table, and its number, before its value is read.
+// A key as the check reads it: an immediate key has its pair in the lent table, and its number, before its value is
+// read. Each function but `is_known` answers where the value starts, and leaves the number of keys passed in `count`.
+// The table, the links and the count are no struct here either: walk.rt says why.
 ghost use Rattle.std.specs.Prelude.{◌≡◌, ◌+◌, ◌^◌, ◌≤◌, ◌<◌, length};
 ghost use Rattle.fractured_json_rules.specs.Verdict.{numeral, listed_key};
 ghost use Rattle.fractured_json_values.specs.Heads.{numbered_by};
 ghost use Rattle.fractured_json_check.specs.Known.{Known};
 ghost use Rattle.fractured_json_check.specs.Table.{table, fresh_key_in, new_key_in, old_key_in, key_in, out};
 
-use crate::walk::Walk;
+use crate::document::Document;
 use fractured_json_keys::chains::{link, seek};
 use fractured_json_keys::pairs::store;
 use fractured_json_values::key_number::key_number_at;
 use fractured_json_values::texts::{room_of, text_of};
-use fractured_json_values::types::key_head;
-use fractured_json_values::values::Numeral;
-use json_model::Refusal;
+use fractured_json_values::types::{KeyHead, KeyKind, key_head};
+use fractured_json_values::values::{Numeral, byte_at};
+use json_model::{Refusal, refuse};
 
-// An immediate key whose text of `number` bytes at `past` is fresh and falls into the bucket `b`: once passed, it has its pair,
-// its link and its number.
+// An immediate key whose text of `n.number` bytes at `n.past` is fresh and falls into the bucket `b`: once passed, it
+// has its pair, its link and its number.
+#[tactic(auto, using(crate::proofs::CheckedKeys::fresh_laws))]
 fn fresh_key(
     keys: &mut [u32],
     links: &mut [u16],
+    count: &mut usize,
+    at: usize,
     b: usize,
-    count: usize,
-    at: usize,
-    number: usize,
-    past: usize,
-) -> Walk
-    requires { past + number < 2 ^ 32 }
-    ensures { out result keys.new links.new ≡ fresh_key_in b at (numeral number past) (table count keys.old links.old) }
+    n: Numeral,
+) -> Result<usize, Refusal>
+    requires { n.past + n.number < 2 ^ 32 }
+    ensures { out result count.new keys.new links.new ≡ fresh_key_in b at (numeral n.number n.past) (table count.old keys.old links.old) }
 {
-    if room_of(keys) <= count {
-        return Walk::Refused {
-            count,
-            refusal: Refusal {
-                number: 40,
-                place: at,
-            },
-        };
+    let Numeral { number, past } = n;
+    if room_of(keys) <= *count {
+        return refuse(40, at);
     }
-    store(keys, count, past, number);
-    link(links, count, b);
-    Walk::End {
-        count: count + 1,
-        at: past + number,
-    }
+    store(keys, *count, past, number);
+    link(links, *count, b);
+    *count += 1;
+    Ok(past + number)
 }
 
-// An immediate key, whose text of `number` bytes starts at `past`.
-fn new_key(
-    doc: &[u8],
-    keys: &mut [u32],
-    links: &mut [u16],
-    count: usize,
-    at: usize,
-    number: usize,
-    past: usize,
-) -> Walk
-    requires { (length doc.now < 2 ^ 32) × (past ≤ length doc.now) }
-    ensures { out result keys.new links.new ≡ new_key_in doc.now at (numeral number past) (table count keys.old links.old) }
-{
-    if doc.len() - past < number {
-        return Walk::Refused {
-            count,
-            refusal: Refusal {
-                number: 35,
-                place: at,
-            },
-        };
-    }
-    let s = seek(doc, keys, links, count, text_of(doc, past, number));
-    if s == 0 {
-        return Walk::Refused {
-            count,
-            refusal: Refusal {
-                number: 39,
-                place: at,
-            },
-        };
-    }
-    fresh_key(keys, links, s - 1, count, at, number, past)
-}
-
-// A key by its kind, once the number that it carries has been read.
-fn numbered(
-    doc: &[u8],
-    names: usize,
-    keys: &mut [u32],
-    links: &mut [u16],
-    count: usize,
-    at: usize,
-    kind: u8,
-    number: usize,
-    past: usize,
-) -> Walk
-    requires { (length doc.now < 2 ^ 32) × (past ≤ length doc.now) }
-    ensures { out result keys.new links.new ≡ numbered_by (new_key_in doc.now at) (old_key_in at) (listed_key names at) kind (numeral number past) (table count keys.old links.old) }
-{
-    if kind == 0 {
-        return new_key(doc, keys, links, count, at, number, past);
-    }
-    if kind == 1 {
-        if number < count {
-            return Walk::End { count, at: past };
+impl Document<'_> {
+    // An immediate key, whose text of `n.number` bytes starts at `n.past`.
+    #[tactic(auto, using(crate::proofs::CheckedKeys::new_laws))]
+    fn new_key(
+        &self,
+        keys: &mut [u32],
+        links: &mut [u16],
+        count: &mut usize,
+        at: usize,
+        n: Numeral,
+    ) -> Result<usize, Refusal>
+        requires { n.past ≤ length self.now.bytes.now }
+        ensures { out result count.new keys.new links.new ≡ new_key_in self.now.bytes.now at (numeral n.number n.past) (table count.old keys.old links.old) }
+    {
+        let doc = self.bytes;
+        if doc.len() - n.past < n.number {
+            return refuse(35, at);
         }
-        return Walk::Refused {
-            count,
-            refusal: Refusal {
-                number: 38,
-                place: at,
-            },
+        let Some(b) = seek(doc, keys, links, *count, text_of(doc, n.past, n.number)) else {
+            return refuse(39, at);
         };
+        fresh_key(keys, links, count, at, b, n)
     }
-    if number < names {
-        return Walk::End { count, at: past };
-    }
-    Walk::Refused {
-        count,
-        refusal: Refusal {
-            number: 38,
-            place: at,
-        },
-    }
-}
 
-// The key at a place, as the check reads it: where its value starts, and the number of keys passed.
-pub(crate) fn check_key(
-    doc: &[u8],
-    names: usize,
-    keys: &mut [u32],
-    links: &mut [u16],
-    count: usize,
-    at: usize,
-) -> Walk
-    requires { length doc.now < 2 ^ 32 }
-    ensures { out result keys.new links.new ≡ key_in doc.now names at (table count keys.old links.old) }
-{
-    if doc.len() <= at {
-        return Walk::Refused {
-            count,
-            refusal: Refusal {
-                number: 35,
-                place: at,
-            },
-        };
-    }
-    let h = key_head(doc[at]);
-    let kind = h.kind;
-    if kind == 3 {
-        return Walk::Refused {
-            count,
-            refusal: Refusal {
-                number: 36,
-                place: at,
-            },
-        };
-    }
-    let n = key_number_at(doc, at, h.spelled, h.number);
-    match n {
-        Numeral::Refused(refusal) => Walk::Refused { count, refusal },
-        Numeral::Is { number, past } => numbered(
-            doc, names, keys, links, count, at, kind, number, past,
-        ),
-    }
-}
-
-// Whether the key at a place is a back reference or a global index in one byte that is found: the most frequent keys, told by a
-// branch of their own and not by an answer in memory.
-pub(crate) fn is_known(doc: &[u8], names: usize, count: usize, at: usize) -> bool
-    ensures { Known doc.now names count at result }
-{
-    if doc.len() <= at {
-        return false;
-    }
-    let h = key_head(doc[at]);
-    if h.spelled == 0 {
-        if h.kind == 1 {
-            return h.number < count;
-        }
-        if h.kind == 2 {
-            return h.number < names;
+    // A key by its kind, once the number that it carries has been read.
+    #[tactic(auto, using(crate::proofs::CheckedKeys::numbered_laws))]
+    fn numbered(
+        &self,
+        keys: &mut [u32],
+        links: &mut [u16],
+        count: &mut usize,
+        at: usize,
+        kind: KeyKind,
+        n: Numeral,
+    ) -> Result<usize, Refusal>
+        requires { n.past ≤ length self.now.bytes.now }
+        ensures { out result count.new keys.new links.new ≡ numbered_by (new_key_in self.now.bytes.now at) (old_key_in at) (listed_key self.now.names at) kind (numeral n.number n.past) (table count.old keys.old links.old) }
+    {
+        match kind {
+            KeyKind::Immediate => self.new_key(keys, links, count, at, n),
+            KeyKind::Back if n.number < *count => Ok(n.past),
+            KeyKind::Global if n.number < self.names => Ok(n.past),
+            _ => refuse(38, at),
         }
     }
-    false
+
+    // The key at a place.
+    #[tactic(auto, using(crate::proofs::CheckedKeys::check_key_laws))]
+    pub(crate) fn check_key(
+        &self,
+        keys: &mut [u32],
+        links: &mut [u16],
+        count: &mut usize,
+        at: usize,
+    ) -> Result<usize, Refusal>
+        ensures { out result count.new keys.new links.new ≡ key_in self.now.bytes.now self.now.names at (table count.old keys.old links.old) }
+    {
+        let doc = self.bytes;
+        let Some(KeyHead { kind, number }) = key_head(byte_at(doc, at)?) else {
+            return refuse(36, at);
+        };
+        let n = key_number_at(doc, at, number)?;
+        self.numbered(keys, links, count, at, kind, n)
+    }
+
+    // Whether the key at a place is a back reference or a global index in one byte that is found: the most frequent
+    // keys, told by a branch of their own and not by an answer in memory (docs/DECISIONS.md, "Answers that meet in
+    // memory").
+    #[tactic(auto, using(crate::proofs::CheckedKeys::known_laws))]
+    pub(crate) fn is_known(&self, count: usize, at: usize) -> bool
+        ensures { Known self.now.bytes.now self.now.names count at result }
+    {
+        let Ok(b) = byte_at(self.bytes, at) else {
+            return false;
+        };
+        let Some(KeyHead { kind, number }) = key_head(b) else {
+            return false;
+        };
+        match (kind, number) {
+            (KeyKind::Back, Some(number)) => number < count,
+            (KeyKind::Global, Some(number)) => number < self.names,
+            _ => false,
+        }
+    }
 }

@@ -4,29 +4,24 @@ use mathlib.Core.List.{List}
 use Prim.Native.Nat.{ℕ, ◌+◌, ◌-◌, ◌*◌, ◌≤◌, ◌<◌}
 use native.Mathlib.Omega.{arith}
 use borrow.Author.Rules.{rules}
-use borrow.Author.Tests.{ne_eqb}
 use lib.Dec.{leb, ltb, le→leb, lt→ltb, ltb→lt}
 use lib.ListN.{length, get_or}
-use mir.Syntax.{w64}
-use mir.Val.{Fits}
-use Rattle.json_model.specs.Choose.{choose}
 use Rattle.json_model.specs.Reading.{Reading, ask, answers, refuses, ◌>>=◌, need}
+use Rattle.std.specs.Prelude.{Option, Some, None, Result}
 use Rattle.json_model.specs.declared.Refusal.{Refusal}
-use Rattle.json_model.proofs.Reading.{then, stops, pass, fail}
+use Rattle.json_model.proofs.Reading.{over, then, stops, pass, fail}
 use Rattle.fractured_json_rules.specs.ByteTables.{key_form_of}
-use Rattle.fractured_json_rules.specs.Verdict.{numeral, key_number_at}
+use Rattle.fractured_json_rules.specs.Verdict.{byte_at, numeral, key_number_at}
 use Rattle.fractured_json_rules.specs.KeyList.{count_in}
 use Rattle.fractured_json_rules.specs.KeyTable.{room_of}
 use Rattle.fractured_json_rules.specs.Questions.{text_key, back_key, name_key, read_key}
 use Rattle.fractured_json_theorems.proofs.Readers.{text_is_lem, text_past}
-use Rattle.fractured_json_values.specs.Heads.{key_head_of, key_number_by, numbered_by}
-use Rattle.fractured_json_values.specs.Opened.{ReadsNumeral}
+use Rattle.fractured_json_values.specs.Heads.{key_head, key_head_of, key_number_by, numbered_by}
 use Rattle.fractured_json_containers.specs.Asked.{in_document, in_list, ReadsKey}
 use Rattle.fractured_json_containers.specs.declared.skip.KeyText.{KeyText}
-use Rattle.fractured_json_values.specs.declared.types.KeyHead.{KeyHead}
-use Rattle.fractured_json_values.specs.declared.values.Numeral.{Numeral}
-use Rattle.fractured_json_values.proofs.KeyHeads.{past_end, head_reserved, number_refused, number_read}
-use Rattle.fractured_json_values.proofs.Opening.{over, numeral_inside}
+use Rattle.fractured_json_values.specs.declared.types.KeyKind.{KeyKind}
+use Rattle.fractured_json_values.specs.declared.types.KeyKind.TheVariants.{Immediate, Global}
+use Rattle.fractured_json_values.proofs.KeyHeads.{byte_refused, head_reserved, number_refused, number_read}
 
 -- ---- a back reference
 
@@ -40,10 +35,6 @@ module _ (doc words : List ℕ) (count at number past : ℕ) where
     unfolding back_key
     over_room l = let o : room_of words < count = omega arith in pass _ _ _ _ tt (lt→ltb _ _ h) ∙ fail _ _ _ _ tt (over o)
 
-    pub pair_held : count ≤ room → 2 * number + 1 < length words
-    unfolding room_of
-    pair_held l = omega arith
-
     module _ (l : count ≤ room) (start len : ℕ) (s : start ≡ get_or words (2 * number) 0) (n : len ≡ get_or words (2 * number + 1) 0) where
       two : {A : Type 0} (f : Unit {0} → Reading (Unit {0}) A) → (need (ltb number count) 38 at >>= λ _. need (leb count (room_of words)) 38 at >>= f) tt ≡ f tt tt
       two f = let o : count ≤ room_of words = omega arith in pass _ _ _ _ tt (lt→ltb _ _ h) ∙ pass _ _ _ _ tt (le→leb _ _ o)
@@ -56,69 +47,50 @@ module _ (doc words : List ℕ) (count at number past : ℕ) where
       unfolding back_key
       pair_read o = two _ ∙ (pass _ _ _ _ tt (le→leb _ _ (rw (s, n) at o)) ∙ rw (s, n))
 
-pub pair_held_first : (words : List ℕ) (count number room : ℕ) → number < count → room ≡ room_of words → count ≤ room → 2 * number < length words
-unfolding room_of
-pair_held_first words count number room h r l = omega arith
-
-pub pair_fits : (words : List ℕ) (count number room : ℕ) → number < count → room ≡ room_of words → count ≤ room → Fits w64 (2 * number)
-unfolding room_of
-pair_fits words count number room h r l = record { fits = omega arith }
-
-pub pair_fits_next : (words : List ℕ) (count number room : ℕ) → number < count → room ≡ room_of words → count ≤ room → Fits w64 (2 * number + 1)
-unfolding room_of
-pair_fits_next words count number room h r l = record { fits = omega arith }
-
-pub ruleset back_laws = (over_count, over_room, pair_held, pair_held_first, pair_fits, pair_fits_next, pair_outside, pair_read, rules)
+pub ruleset back_laws = (over_count, over_room, pair_outside, pair_read, rules)
 
 -- ---- a key by its kind
 
-module _ (doc list words : List ℕ) (count at kind number past : ℕ) where
-  pub text_outside : kind ≡ 0 → past ≤ length doc → length doc - past < number → ask (numbered_by (text_key doc at) (back_key doc words count at) (name_key list at) kind (numeral number past)) ≡ refuses 35 at
-  unfolding numbered_by text_key choose
+module _ (doc list words : List ℕ) (count at number past : ℕ) (kind : KeyKind) where
+  pub text_outside : kind ≡ Immediate → past ≤ length doc → length doc - past < number → ask (numbered_by (text_key doc at) (back_key doc words count at) (name_key list at) kind (numeral number past)) ≡ refuses 35 at
+  unfolding text_key
   text_outside e p h = rw e (stops _ _ tt (text_past doc at _ tt (omega arith)))
 
-  pub text_read : kind ≡ 0 → past ≤ length doc → number ≤ length doc - past → ask (numbered_by (text_key doc at) (back_key doc words count at) (name_key list at) kind (numeral number past)) ≡ answers (in_document past number (past + number))
-  unfolding numbered_by text_key choose
+  pub text_read : kind ≡ Immediate → past ≤ length doc → number ≤ length doc - past → ask (numbered_by (text_key doc at) (back_key doc words count at) (name_key list at) kind (numeral number past)) ≡ answers (in_document past number (past + number))
+  unfolding text_key
   text_read e p h = rw e (then _ _ tt (text_is_lem doc at _ tt (omega arith)))
 
-  pub as_back : (k : KeyText) → kind ≡ 1 → ReadsKey list (ask (back_key doc words count at (numeral number past))) k → ReadsKey list (ask (numbered_by (text_key doc at) (back_key doc words count at) (name_key list at) kind (numeral number past))) k
-  unfolding numbered_by choose
-  as_back k e h = rw e h
-
-  module _ (f : kind ≡ 0 → ⊥) (g : kind ≡ 1 → ⊥) (n : ℕ) (ns : n ≡ count_in list) where
-    found : number < n → ask (numbered_by (text_key doc at) (back_key doc words count at) (name_key list at) kind (numeral number past)) ≡ answers (in_list list number past)
-    unfolding numbered_by name_key choose
-    found h = let l : number < count_in list = omega arith in rw (ne_eqb kind 0 f, ne_eqb kind 1 g) (pass _ _ _ _ tt (lt→ltb _ _ l))
-
-    pub as_name : number < n → ReadsKey list (ask (numbered_by (text_key doc at) (back_key doc words count at) (name_key list at) kind (numeral number past))) (KeyText.Name number past)
-    as_name h = (found h, omega arith)
+  module _ (e : kind ≡ Global) (n : ℕ) (ns : n ≡ count_in list) where
+    pub as_name : number < n → ask (numbered_by (text_key doc at) (back_key doc words count at) (name_key list at) kind (numeral number past)) ≡ answers (in_list list number past)
+    unfolding name_key
+    as_name h = let l : number < count_in list = omega arith in rw e (pass _ _ _ _ tt (lt→ltb _ _ l))
 
     pub as_unlisted : n ≤ number → ask (numbered_by (text_key doc at) (back_key doc words count at) (name_key list at) kind (numeral number past)) ≡ refuses 38 at
-    unfolding numbered_by name_key choose
-    as_unlisted h = rw (ne_eqb kind 0 f, ne_eqb kind 1 g) (fail _ _ _ _ tt (λ t. let l = ltb→lt number (count_in list) t in omega arith))
+    unfolding name_key
+    as_unlisted h = rw e (fail _ _ _ _ tt (λ t. let l = ltb→lt number (count_in list) t in omega arith))
 
-pub ruleset numbered_laws = (text_outside, text_read, as_back, as_name, as_unlisted, rules)
+pub ruleset numbered_laws = (text_outside, text_read, as_name, as_unlisted, rules)
 
 -- ---- a key at a place
 
 module _ (doc list words : List ℕ) (count at : ℕ) where
-  pub key_past : length doc ≤ at → ask (read_key doc list words count at) ≡ refuses 35 at
+  pub key_past : (r : Refusal) → ask (byte_at doc at at) ≡ refuses r.number r.place → ask (read_key doc list words count at) ≡ refuses r.number r.place
   unfolding read_key
-  key_past h = past_end doc at _ _ _ tt h
+  key_past r e = byte_refused doc at _ _ _ tt r e
 
-  module _ (i : at < length doc) (h : KeyHead) (hs : h ≡ key_head_of (key_form_of (get_or doc at 0))) where
-    pub key_reserved : h.kind ≡ 3 → ask (read_key doc list words count at) ≡ refuses 36 at
+  module _ (b : ℕ) (i : ask (byte_at doc at at) ≡ answers b) where
+    pub key_reserved : None ≡ key_head_of (key_form_of b) → ask (read_key doc list words count at) ≡ refuses 36 at
     unfolding read_key
-    key_reserved e = head_reserved doc at _ _ _ tt i h hs e
+    key_reserved e = head_reserved doc at _ _ _ tt b i e
 
-    module _ (f : h.kind ≡ 3 → ⊥) (c : Numeral) (cs : ReadsNumeral (length doc) (ask (key_number_at doc at (key_number_by h.spelled h.number))) c) where
-      pub key_refused : (r : Refusal) → c ≡ Numeral.Refused r → ask (read_key doc list words count at) ≡ refuses r.number r.place
+    module _ (kind : KeyKind) (number : Option ℕ) (h : Some (key_head kind number) ≡ key_head_of (key_form_of b)) where
+      pub key_refused : (r : Refusal) → ask (key_number_at doc at (key_number_by number)) ≡ refuses r.number r.place → ask (read_key doc list words count at) ≡ refuses r.number r.place
       unfolding read_key
-      key_refused r e = number_refused doc at _ _ _ tt i h hs f c cs r e
+      key_refused r e = number_refused doc at _ _ _ tt b i kind number h r e
 
-      pub key_by_number : (n p : ℕ) (k : KeyText) → c ≡ Numeral.Is n p → ReadsKey list (ask (numbered_by (text_key doc at) (back_key doc words count at) (name_key list at) h.kind (numeral n p))) k
-          → ReadsKey list (ask (read_key doc list words count at)) k
+      pub key_by_number : (n p : ℕ) (k : Result KeyText Refusal) → ask (key_number_at doc at (key_number_by number)) ≡ answers (numeral n p)
+          → ReadsKey list (ask (numbered_by (text_key doc at) (back_key doc words count at) (name_key list at) kind (numeral n p))) k → ReadsKey list (ask (read_key doc list words count at)) k
       unfolding read_key
-      key_by_number n p k e q = rw (number_read doc at (text_key doc at) (back_key doc words count at) (name_key list at) (tt {0}) i h hs f c cs n p e) q
+      key_by_number n p k e q = rw (number_read doc at (text_key doc at) (back_key doc words count at) (name_key list at) (tt {0}) b i kind number h n p e) q
 
-pub ruleset read_key_laws = (key_past, key_reserved, key_refused, key_by_number, numeral_inside, rules)
+pub ruleset read_key_laws = (key_past, key_reserved, key_refused, key_by_number, rules)

@@ -13,8 +13,8 @@ use lib.Seq.{get_or-set_same, get_or-set_other}
 use Rattle.json_model.specs.Bytes.{part}
 use Rattle.json_model.specs.Choose.{choose}
 use Rattle.json_model.specs.Texts.{compare_texts, is_equal}
-use Rattle.json_model.specs.declared.Order.{Order}
-use Rattle.json_model.specs.declared.Order.TheVariants.{Below, Equal, Above}
+use Rattle.std.specs.declared.cmp.Ordering.{Ordering}
+use Rattle.std.specs.declared.cmp.Ordering.TheVariants.{Less, Equal, Greater}
 use Rattle.json_model.proofs.Texts.{texts_equal}
 use Rattle.text.specs.Hash.{hash_of}
 use Rattle.text.proofs.Hashing.{hash_small}
@@ -77,13 +77,10 @@ unfolding last_of
 last_same f g b zero h = refl
 last_same f g b (suc n) h = rw (h n (omega arith), last_same f g b n (λ i l. h i (omega arith)))
 
-no_test : {b : Bool} → b ≡ false → T b → ⊥
-no_test e t = rw e at t
-
-is_equal_lem : (o : Order) → T (is_equal o) → o ≡ Equal
-is_equal_lem Below t = absurd t
+is_equal_lem : (o : Ordering) → T (is_equal o) → o ≡ Equal
+is_equal_lem Less t = absurd t
 is_equal_lem Equal t = refl
-is_equal_lem Above t = absurd t
+is_equal_lem Greater t = absurd t
 
 -- a text in another bucket is another text
 unlike : (doc t : List ℕ) (k : Key) (m : ℕ) → (T (eqb (bucket_of (key_text doc k) m) (bucket_of t m)) → ⊥) → same doc t k ≡ false
@@ -242,7 +239,7 @@ module _ (doc words links : List ℕ) (m count p n : ℕ) (chains : Chains doc w
           let inside : bucket < length (set links (m + count) (get_or links bucket 0)) = rw length-set (omega arith) in
           rw (← one) (get_or-set_same (set links (m + count) (get_or links bucket 0)) bucket (count + 1) 0 inside ∙ add-one count)
       go false q =
-          let other : b ≡ bucket → ⊥ = λ o. no_test q (rw o (eqb_refl bucket)) in
+          let other : b ≡ bucket → ⊥ = λ o. let w : T (eqb bucket b) = rw o (eqb_refl bucket) in rw q at w in
           let below : b ≡ m + count → ⊥ = λ o. omega arith in
           get_or-set_other (set links (m + count) (get_or links bucket 0)) bucket b (count + 1) 0 other
           ∙ (get_or-set_other links (m + count) b (get_or links bucket 0) 0 below ∙ (chains.heads b k ∙ last_before b count (omega arith)))

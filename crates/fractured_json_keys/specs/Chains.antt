@@ -1,7 +1,7 @@
 -- The test of rules 39 and 54 by chains: for each bucket of hashes the last key passed whose text falls into it, and for each key
 -- the one before it in its bucket; a name of the key list counts as a key. A link is one more than the number of its key, and 0
 -- where the chain ends. The links are the code's own; proofs/Chained.antt shows that the chains find what the rules' test finds.
-use Rattle.std.specs.Prelude.{ℕ, zero, suc, ◌+◌, ◌*◌, ◌/◌, ◌^◌, min, Bool, true, false, List, ltb, length, get_or, set}
+use Rattle.std.specs.Prelude.{ℕ, zero, suc, ◌+◌, ◌*◌, ◌/◌, ◌^◌, min, Bool, true, false, List, Option, Some, None, ltb, length, get_or, set}
 use Rattle.json_model.specs.Choose.{choose}
 use Rattle.json_model.specs.Texts.{compare_texts, is_equal}
 use Rattle.text.specs.Hash.{hash_of}
@@ -34,9 +34,9 @@ unfoldable pub seen_in : List ℕ → List ℕ → List ℕ → List ℕ → ℕ
 seen_in doc t words links count =
     choose (ltb count (buckets_in links)) (followed doc t words links (buckets_in links) (get_or links (bucket_of t (buckets_in links)) 0)) (met doc t (keys_in words count))
 
--- 0 for the text of a key passed, and else one more than the bucket of t
-unfoldable pub sought_in : List ℕ → List ℕ → List ℕ → List ℕ → ℕ → ℕ
-sought_in doc t words links count = choose (seen_in doc t words links count) 0 (bucket_of t (buckets_in links) + 1)
+-- none for the text of a key passed, and else the bucket of t
+unfoldable pub sought_in : List ℕ → List ℕ → List ℕ → List ℕ → ℕ → Option ℕ
+sought_in doc t words links count = choose (seen_in doc t words links count) None (Some (bucket_of t (buckets_in links)))
 
 -- the links once key `count` has been passed, whose text falls into the bucket b; a key for which there is no link has none
 unfoldable pub linked_in : List ℕ → ℕ → ℕ → List ℕ

@@ -35,24 +35,24 @@ module _ (list : List ℕ) (at : ℕ) where
 
 pub ruleset number_laws = (both_past, second_past, byte_fits, number_below, rules)
 
--- ---- name j: the steps from here on lead where those from 3 on lead
+-- ---- name j: the steps that are left after i lead where those from 3 on lead
 
-module _ (list : List ℕ) (left at x : ℕ) (here : steps (next_name list) left at ≡ x) where
-  pub one_step : (r : ℕ) → r ≡ number list at 2 → 0 < left → steps (next_name list) (left - 1) (at + 2 + r) ≡ x
+module _ (list : List ℕ) (at i j : ℕ) (here : steps (next_name list) (j - i) at ≡ steps (next_name list) j 3) where
+  pub one_step : (r : ℕ) → r ≡ number list at 2 → i < j → steps (next_name list) (j - (i + 1)) (at + 2 + r) ≡ steps (next_name list) j 3
   unfolding steps
-  one_step r e h = let z : left ≡ suc (left - 1) = omega arith in rw e (rw z at here)
+  one_step r e h = let z : j - i ≡ suc (j - (i + 1)) = omega arith in rw e (rw z at here)
 
-  no_step : left ≤ 0 → at ≡ x
-  unfolding steps
-  no_step h = let z : left ≡ 0 = omega arith in rw z at here
+  module _ (h : j ≤ i) where
+    no_step : at ≡ steps (next_name list) j 3
+    unfolding steps
+    no_step = let z : j - i ≡ 0 = omega arith in rw z at here
 
-module _ (list : List ℕ) (left at j : ℕ) (here : steps (next_name list) left at ≡ steps (next_name list) j 3) (l : left ≤ 0) where
-  pub start_is : at + 2 ≡ (name_of list j).start
-  unfolding name_of
-  start_is = ap (λ o. o + 2) (no_step list left at _ here l)
+    pub start_is : at + 2 ≡ (name_of list j).start
+    unfolding name_of
+    start_is = ap (λ o. o + 2) no_step
 
-  pub length_is : (r : ℕ) → r ≡ number list at 2 → r ≡ (name_of list j).len
-  unfolding name_of
-  length_is r e = e ∙ ap (λ o. number list o 2) (no_step list left at _ here l)
+    pub length_is : (r : ℕ) → r ≡ number list at 2 → r ≡ (name_of list j).len
+    unfolding name_of
+    length_is r e = e ∙ ap (λ o. number list o 2) no_step
 
 pub ruleset name_laws = (one_step, start_is, length_is, rules)

@@ -11,55 +11,45 @@ use lib.ListN.{length, get_or}
 use Rattle.json_model.specs.Bytes.{number, part}
 use Rattle.json_model.specs.Reading.{Asked, ask, answers, refuses, need, told}
 use Rattle.json_model.specs.declared.Refusal.{Refusal}
-use Rattle.json_model.specs.declared.Verdict.{Verdict}
+use Rattle.std.specs.Prelude.{Some, None, Result}
 use Rattle.json_model.proofs.Bytes.{number_small}
 use Rattle.json_model.proofs.Reading.{done_answer, passed, then, stops, pass, fail, need_yes, need_no, eq→eqb, over, unlike}
 use Rattle.fractured_json_rules.specs.KeyList.{next_name}
-use Rattle.fractured_json_keys.specs.Passed.{with_pair}
-use Rattle.fractured_json_keys.specs.Chains.{sought_in, linked_in}
+use Rattle.fractured_json_keys.specs.Chains.{sought_in}
 use Rattle.fractured_json_keys.proofs.ChainLaws.{sought_met, sought_fresh}
-use Rattle.fractured_json_list.specs.Passing.{NamePassed, name_passed, added, fresh_in, name_in, names_in, Placed, told_step}
-use Rattle.fractured_json_list.specs.declared.walk.Step.{Step}
-
--- ---- a name that is passed
-
-pub name_added : (j b p n : ℕ) (words links after linked : List ℕ) → after ≡ with_pair words j p n → linked ≡ linked_in links j b → name_passed (p + n) after linked ≡ added j b p n words links
-unfolding added
-name_added j b p n words links after linked a l = rw (a, l)
-
-pub ruleset added_laws = (name_added, rules)
+use Rattle.fractured_json_list.specs.Passing.{NamePassed, name_passed, added, fresh_in, name_in, names_in, Placed}
 
 -- ---- a name whose text lies inside the list
 
-module _ (list : List ℕ) (at len j : ℕ) (words links t : List ℕ) (ts : t ≡ part list (at + 2) len) (s : ℕ) (ss : s ≡ sought_in list t words links j) where
-  pub name_met : s ≡ 0 → (r : Refusal) → r.number ≡ 54 → r.place ≡ at → refuses r.number r.place ≡ ask (fresh_in list at len j words links)
+module _ (list : List ℕ) (at len j : ℕ) (words links t : List ℕ) (ts : t ≡ part list (at + 2) len) where
+  pub name_met : None ≡ sought_in list t words links j → refuses 54 at ≡ ask (fresh_in list at len j words links)
   unfolding fresh_in
-  name_met q r n p =
-      let w = sought_met list (part list (at + 2) len) words links j s (rw ts at ss) q in
-      rw (n, p) (sym (fail _ _ _ _ _ (rw w (λ t. t))))
+  name_met e =
+      let w = sought_met list (part list (at + 2) len) words links j (rw ts at e) in
+      sym (fail _ _ _ _ _ (rw w (λ t. t)))
 
-  pub name_fresh : (s ≡ 0 → ⊥) → (p : NamePassed) → p ≡ added j (s - 1) (at + 2) len words links → answers p ≡ ask (fresh_in list at len j words links)
+  pub name_fresh : (b : ℕ) → Some b ≡ sought_in list t words links j → (p : NamePassed) → p ≡ added j b (at + 2) len words links → answers p ≡ ask (fresh_in list at len j words links)
   unfolding fresh_in
-  name_fresh f p e =
-      let w = sought_fresh list (part list (at + 2) len) words links j s (rw ts at ss) f in
-      rw (e, w.1) (sym (pass _ _ _ _ _ (rw w.0 tt)))
+  name_fresh b e p q =
+      let w = sought_fresh list (part list (at + 2) len) words links j b (rw ts at e) in
+      rw (q, w.1) (sym (pass _ _ _ _ _ (rw w.0 tt)))
 
 pub ruleset fresh_laws = (name_met, name_fresh, rules)
 
 -- ---- a name
 
 module _ (list : List ℕ) (at j : ℕ) (words links : List ℕ) (placed : Placed list j at) where
-  pub length_outside : length list - at < 2 → (r : Refusal) → r.number ≡ 52 → r.place ≡ at → refuses r.number r.place ≡ ask (name_in list at j words links)
+  pub length_outside : length list - at < 2 → refuses 52 at ≡ ask (name_in list at j words links)
   unfolding name_in
-  length_outside h r n p = let l : length list < at + 2 = omega arith in rw (n, p) (sym (fail _ _ _ _ _ (over l)))
+  length_outside h = let l : length list < at + 2 = omega arith in sym (fail _ _ _ _ _ (over l))
 
   module _ (h : 2 ≤ length list - at) (len : ℕ) (e : len ≡ number list at 2) where
     length_inside : at + 2 ≤ length list
     length_inside = omega arith
 
-    pub text_outside : length list - at - 2 < len → (r : Refusal) → r.number ≡ 52 → r.place ≡ at + 2 → refuses r.number r.place ≡ ask (name_in list at j words links)
+    pub text_outside : length list - at - 2 < len → refuses 52 (at + 2) ≡ ask (name_in list at j words links)
     unfolding name_in
-    text_outside k r n p = let l : length list < next_name list at = omega arith in rw (n, p) (sym (pass _ _ _ _ _ (le→leb _ _ length_inside) ∙ fail _ _ _ _ _ (over l)))
+    text_outside k = let l : length list < next_name list at = omega arith in sym (pass _ _ _ _ _ (le→leb _ _ length_inside) ∙ fail _ _ _ _ _ (over l))
 
     pub text_inside : len ≤ length list - at - 2 → (q : Asked NamePassed) → q ≡ ask (fresh_in list at len j words links) → q ≡ ask (name_in list at j words links)
     unfolding name_in
@@ -72,8 +62,8 @@ pub ruleset name_laws = (length_outside, text_outside, text_inside, rules)
 pub ends : (list : List ℕ) (at : ℕ) → at ≡ length list → answers tt ≡ ask (need (eqb at (length list)) 53 at)
 ends list at h = sym (need_yes _ _ _ _ (eq→eqb h))
 
-pub more_bytes : (list : List ℕ) (at : ℕ) → (at ≡ length list → ⊥) → (r : Refusal) → r.number ≡ 53 → r.place ≡ at → refuses r.number r.place ≡ ask (need (eqb at (length list)) 53 at)
-more_bytes list at h r n p = rw (n, p) (sym (need_no _ _ _ _ (unlike h)))
+pub more_bytes : (list : List ℕ) (at : ℕ) → (at ≡ length list → ⊥) → refuses 53 at ≡ ask (need (eqb at (length list)) 53 at)
+more_bytes list at h = sym (need_no _ _ _ _ (unlike h))
 
 pub ruleset end_laws = (ends, more_bytes, rules)
 
@@ -102,27 +92,27 @@ passed_at list o j next words links after linked e =
     (q, omega arith)
 
 module _ (list : List ℕ) (n at j : ℕ) (words links : List ℕ) (x : Asked (Unit {0})) (here : Going list n at j words links x) where
-  module _ (h : j < n) (s : Step) (after linked : List ℕ) (e : told_step s after linked ≡ ask (name_in list at j words links)) where
+  module _ (h : j < n) where
     one_left : n - j ≡ suc (n - (j + 1))
     one_left = omega arith
 
-    pub name_passed_lem : (next : ℕ) → s ≡ Step.Past next → ((k : ℕ) → Fits w8 (get_or list k 0)) → Going list n next (j + 1) after linked x
+    pub name_passed_lem : (next : ℕ) (after linked : List ℕ) → answers (name_passed next after linked) ≡ ask (name_in list at j words links) → ((k : ℕ) → Fits w8 (get_or list k 0))
+        → Going list n next (j + 1) after linked x
     unfolding names_in
-    name_passed_lem next q g =
-        let told = sym (ap (λ t. told_step t after linked) q) ∙ e in
-        let p = passed_at list at j next words links after linked told in
+    name_passed_lem next after linked e g =
+        let p = passed_at list at j next words links after linked e in
         let m = number_small list (λ k. (g k).fits) at 2 in
         let f = p.0 in
         record {
           placed = record { inside = p.1; least = omega arith; most = omega arith };
-          says = sym (then _ _ _ (sym told)) ∙ (rw one_left at here.says);
+          says = sym (then _ _ _ (sym e)) ∙ (rw one_left at here.says);
         }
 
-    pub name_refused : (r : Refusal) → s ≡ Step.Refused r → refuses r.number r.place ≡ x
+    pub name_refused : (r : Refusal) → refuses r.number r.place ≡ ask (name_in list at j words links) → refuses r.number r.place ≡ x
     unfolding names_in
-    name_refused r q = sym (stops _ _ _ (sym e ∙ ap (λ t. told_step t after linked) q)) ∙ (rw one_left at here.says)
+    name_refused r e = sym (stops _ _ _ (sym e)) ∙ (rw one_left at here.says)
 
-  pub names_end : n ≤ j → (v : Verdict) → told v ≡ ask (need (eqb at (length list)) 53 at) → told v ≡ x
+  pub names_end : n ≤ j → (v : Result (Unit {0}) Refusal) → told v ≡ ask (need (eqb at (length list)) 53 at) → told v ≡ x
   unfolding names_in
   names_end h v e = let z : n - j ≡ 0 = omega arith in e ∙ (rw z at here.says)
 

@@ -1,13 +1,12 @@
 -- The names as the code passes them: beside the place of a name it keeps the number of names before it, their pairs, and the links of
 -- their chains. proofs/Alike.antt shows that this is the rules' reading of the names.
-use Rattle.std.specs.Prelude.{ℕ, zero, suc, ◌+◌, ◌*◌, ◌/◌, ◌≤◌, min, not, List, leb, eqb, length}
+use Rattle.std.specs.Prelude.{ℕ, zero, suc, ◌+◌, ◌*◌, ◌/◌, ◌≤◌, min, not, List, leb, eqb, length, Result}
 use Rattle.json_model.specs.Bytes.{number, part}
-use Rattle.json_model.specs.Reading.{Reading, Asked, answers, refuses, answer, ◌>>=◌, ◌>>◌, need}
+use Rattle.json_model.specs.Reading.{Reading, Asked, answer, ◌>>=◌, ◌>>◌, need, told_by}
+use Rattle.json_model.specs.declared.Refusal.{Refusal}
 use Rattle.fractured_json_rules.specs.KeyList.{next_name}
 use Rattle.fractured_json_keys.specs.Passed.{with_pair}
 use Rattle.fractured_json_keys.specs.Chains.{buckets_in, bucket_of, seen_in, linked_in}
-use Rattle.fractured_json_list.specs.declared.walk.Step.{Step}
-use Rattle.fractured_json_list.specs.declared.walk.Step.TheVariants.{Past, Refused}
 
 -- where the next length stands, with the pairs and the links once a name has been passed
 pub record NamePassed : Type 0 where
@@ -43,9 +42,8 @@ names_in list (suc n) o j words links = do
   names_in list n p.next (j + 1) p.words p.links
 
 -- what the code answers of a name, with the pairs and the links that it left
-abbrev pub told_step : Step → List ℕ → List ℕ → Asked NamePassed
-told_step (Past next) words links = answers (name_passed next words links)
-told_step (Refused r) words links = refuses r.number r.place
+abbrev pub told_step : Result ℕ Refusal → List ℕ → List ℕ → Asked NamePassed
+told_step r words links = told_by (λ next. name_passed next words links) r
 
 -- ---- what is known on the way
 

@@ -1,24 +1,18 @@
-// The names in one pass: each has its pair, start and length of its text, and its link in the chain of its bucket of hashes, by
-// which rule 54 is tested.
+// The names in one pass: each has its pair, start and length of its text, and its link in the chain of its bucket of
+// hashes, by which rule 54 is tested. The words and the links are no struct: each contract would have to say besides
+// that it holds the same two loans as before.
 ghost use Rattle.std.specs.Prelude.{◌≡◌, ◌+◌, ◌/◌, ◌^◌, ◌≤◌, ◌<◌, min, eqb, length};
 ghost use Rattle.json_model.specs.Reading.{ask, need, told};
 ghost use Rattle.fractured_json_list.specs.Passing.{name_passed, added, fresh_in, name_in, names_in, told_step, most_names, RoomFor, Placed};
 
 use crate::names::number_at;
-use crate::refusal;
 use fractured_json_keys::chains::{link, seek};
 use fractured_json_keys::pairs::store;
 use fractured_json_values::texts::text_of;
-use json_model::{Refusal, Verdict};
-
-// How a name is passed: the place of the next length, or a refusal.
-#[derive(Clone, Copy)]
-pub enum Step {
-    Past(usize),
-    Refused(Refusal),
-}
+use json_model::{Refusal, Verdict, refuse};
 
 // Gives name j its pair, and puts it at the head of the chain of its bucket; the answer is where its text ends.
+#[tactic(auto, unfolding(crate::specs::Passing::added))]
 fn add_name(
     words: &mut [u32],
     links: &mut [u16],
@@ -35,7 +29,8 @@ fn add_name(
     start + len
 }
 
-// Name j, whose length `len` stands at `at` and whose text lies inside the list.
+// Name j, whose length `len` stands at `at` and whose text lies inside the list; the answer is where its text ends.
+#[tactic(auto, using(crate::proofs::PassLaws::fresh_laws))]
 fn fresh_name(
     list: &[u8],
     words: &mut [u32],
@@ -43,63 +38,61 @@ fn fresh_name(
     j: usize,
     at: usize,
     len: usize,
-) -> Step
+) -> Result<usize, Refusal>
     requires { (j < length words.old / 2) × (at + 2 < 2 ^ 32) × (len < 65_536) }
     ensures { told_step result words.new links.new ≡ ask (fresh_in list.now at len j words.old links.old) }
 {
     let start = at + 2;
-    let s = seek(list, words, links, j, text_of(list, start, len));
-    if s == 0 {
-        return Step::Refused(refusal(54, at));
-    }
-    Step::Past(add_name(words, links, j, s - 1, start, len))
+    let Some(b) = seek(list, words, links, j, text_of(list, start, len)) else {
+        return refuse(54, at);
+    };
+    Ok(add_name(words, links, j, b, start, len))
 }
 
-// Name j, whose length stands at `at`.
-fn pass_name(list: &[u8], words: &mut [u32], links: &mut [u16], j: usize, at: usize) -> Step
+// Name j, whose length stands at `at`; the answer is where the next length stands.
+#[tactic(auto, using(crate::proofs::PassLaws::name_laws))]
+fn pass_name(
+    list: &[u8],
+    words: &mut [u32],
+    links: &mut [u16],
+    j: usize,
+    at: usize,
+) -> Result<usize, Refusal>
     requires { (j < most_names) × Placed list.now j at × (min (j + 1) (length list.now / 2) ≤ length words.old / 2) }
     ensures { told_step result words.new links.new ≡ ask (name_in list.now at j words.old links.old) }
 {
     let left = list.len() - at;
     if left < 2 {
-        return Step::Refused(refusal(52, at));
+        return refuse(52, at);
     }
     let len = number_at(list, at);
     if left - 2 < len {
-        return Step::Refused(refusal(52, at + 2));
+        return refuse(52, at + 2);
     }
     fresh_name(list, words, links, j, at, len)
 }
 
 // The end of the names at `at`, which is the end of the list.
+#[tactic(auto, using(crate::proofs::PassLaws::end_laws))]
 pub(crate) fn end_at(list: &[u8], at: usize) -> Verdict
     ensures { told result ≡ ask (need (eqb at (length list.now)) 53 at) }
 {
     if at == list.len() {
-        return Verdict::Accepted;
+        return Ok(());
     }
-    Verdict::Refused(refusal(53, at))
+    refuse(53, at)
 }
 
-// The n names from 3 on, and then the end. There is room for as many names as n says and the list can hold: each takes two bytes or
-// more.
+// The n names from 3 on, and then the end. There is room for as many names as n says and the list can hold: each takes
+// two bytes or more.
+#[tactic(auto, using(crate::proofs::PassLaws::names_laws))]
 pub(crate) fn pass_names(list: &[u8], n: usize, words: &mut [u32], links: &mut [u16]) -> Verdict
     requires { RoomFor list.now n (length words.old / 2) }
     ensures { told result ≡ ask (names_in list.now n 3 0 words.old links.old) }
 {
     let mut at = 3;
-    let mut j = 0;
-    while j < n {
-        let s = pass_name(list, words, links, j, at);
-        match s {
-            Step::Past(next) => {
-                at = next;
-            }
-            Step::Refused(r) => {
-                return Verdict::Refused(r);
-            }
-        }
-        j += 1;
+    for j in 0..n {
+        at = pass_name(list, words, links, j, at)?;
     }
     end_at(list, at)
 }

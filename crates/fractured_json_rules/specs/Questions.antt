@@ -10,7 +10,8 @@ use Rattle.json_model.specs.Choose.{choose}
 use Rattle.json_model.specs.Limits.{deepest}
 use Rattle.json_model.specs.Number.{finite}
 use Rattle.json_model.specs.Reading.{halt, done, Reading, answer, refuse, Asked, ask, ◌>>=◌, ◌>>◌, need}
-use Rattle.json_model.specs.Span.{Span, spanned}
+use Rattle.json_model.specs.Span.{spanned}
+use Rattle.json_model.specs.declared.Span.{Span}
 use Rattle.json_model.specs.Texts.{compare_texts, is_equal}
 use Rattle.fractured_json_rules.specs.ByteTables.{bytes, Form, f_null, f_bool, f_int, f_float, f_tiny, f_string, f_object, f_array, f_reserved, form_of, key_form_of}
 use Rattle.fractured_json_rules.specs.KeyList.{count_in, key_list, name_of}

@@ -1,113 +1,129 @@
--- What every question reads first, one law for each way through `open_question`, `enter` and `wanted`; and what goes on after it.
-use mathlib.Core.Path.{◌≡◌, sym, ap, ◌∙◌}
+-- What every question reads first, one law for each way through `open_question` and `wanted`; and what goes on after it.
+use mathlib.Core.Path.{◌≡◌, refl, sym, ◌∙◌}
+use mathlib.Core.Bool.{true, false}
 use mathlib.Core.List.{List}
 use Prim.Native.Nat.{ℕ, ◌≤◌, ◌<◌}
 use borrow.Author.Rules.{rules}
-use borrow.Author.Tests.{eq-eqb, ne_eqb}
 use lib.Dec.{le→leb}
 use lib.ListN.{length}
 use Rattle.json_model.specs.Choose.{choose}
-use Rattle.json_model.specs.Reading.{Reading, Asked, ask, answers, refuses, ◌>>=◌, ◌>>◌, told}
+use Rattle.json_model.specs.Reading.{Reading, Asked, ask, answers, refuses, ◌>>=◌, ◌>>◌}
 use Rattle.json_model.specs.declared.Refusal.{Refusal}
-use Rattle.json_model.specs.declared.Verdict.{Verdict}
-use Rattle.json_model.proofs.Reading.{then, stops, need_yes, need_no}
+use Rattle.json_model.proofs.Reading.{over, then, stops, need_yes, need_no}
+use Rattle.std.specs.Prelude.{Option, Some, None, Result}
 use Rattle.fractured_json_rules.specs.ByteTables.{form_of}
 use Rattle.fractured_json_rules.specs.KeyList.{key_list}
 use Rattle.fractured_json_rules.specs.Verdict.{header, numeral, byte_at}
 use Rattle.fractured_json_rules.specs.Verdict as Rules
 use Rattle.fractured_json_rules.specs.Questions.{opening, Wanted, wanted_here}
-use Rattle.fractured_json_theorems.proofs.Readers.{byte_is, byte_past}
 use Rattle.fractured_json_values.specs.Heads.{head_of}
 use Rattle.fractured_json_values.specs.Opened.{sized_at, ReadsNumeral}
-use Rattle.fractured_json_scalars.specs.Asked.{Enters, wanted_head, wanted_in}
+use Rattle.fractured_json_scalars.specs.Asked.{is_type, wanted_head, wanted_type}
 use Rattle.fractured_json_values.specs.declared.types.Head.{Head}
-use Rattle.fractured_json_scalars.specs.declared.enter.Entered.{Entered}
+use Rattle.fractured_json_values.specs.declared.types.ValueType.{ValueType}
+use Rattle.fractured_json_values.specs.declared.types.ValueType.TheVariants.{Null, False, True, Signed, Unsigned, Tiny, Binary32, Binary64, String, Object, Array}
 use Rattle.fractured_json_values.specs.declared.values.Numeral.{Numeral}
-use Rattle.fractured_json_values.proofs.Opening.{over, head_width}
-use Rattle.fractured_json_scalars.proofs.Forms.{wanted_kind, wanted_is}
+use Rattle.fractured_json_values.proofs.Opening.{head_width}
+use Rattle.fractured_json_values.proofs.Walks.{then_same}
+use Rattle.fractured_json_scalars.proofs.Forms.{type_of, wanted_form}
 
 -- ---- 51 to 54, 31 to 34, and 20
 
-module _ (doc list : List ℕ) (at : ℕ) (l : Verdict) (ls : told l ≡ ask (key_list list)) where
-  pub list_refused : (r : Refusal) → l ≡ Verdict.Refused r → refuses r.number r.place ≡ ask (opening doc list at)
+module _ (doc list : List ℕ) (at : ℕ) where
+  pub list_refused : (r : Refusal) → refuses r.number r.place ≡ ask (key_list list) → refuses r.number r.place ≡ ask (opening doc list at)
   unfolding opening
-  list_refused r e = sym (stops _ _ tt (sym ls ∙ ap told e))
+  list_refused r e = sym (stops _ _ tt (sym e))
 
-  module _ (good : l ≡ Verdict.Accepted) (v : Verdict) (vs : told v ≡ ask (header doc)) where
-    pub header_refused : (r : Refusal) → v ≡ Verdict.Refused r → refuses r.number r.place ≡ ask (opening doc list at)
+  module _ (good : answers tt ≡ ask (key_list list)) where
+    pub header_refused : (r : Refusal) → refuses r.number r.place ≡ ask (header doc) → refuses r.number r.place ≡ ask (opening doc list at)
     unfolding opening
-    header_refused r e = sym (then _ _ tt (sym ls ∙ ap told good) ∙ stops _ _ tt (sym vs ∙ ap told e))
+    header_refused r e = sym (then _ _ tt (sym good) ∙ stops _ _ tt (sym e))
 
-    module _ (e : v ≡ Verdict.Accepted) where
+    module _ (e : answers tt ≡ ask (header doc)) where
       pub cursor_low : at < 3 → refuses 20 at ≡ ask (opening doc list at)
       unfolding opening
-      cursor_low h = sym (then _ _ tt (sym ls ∙ ap told good) ∙ (then _ _ tt (sym vs ∙ ap told e) ∙ need_no _ _ _ tt (over h)))
+      cursor_low h = sym (then _ _ tt (sym good) ∙ (then _ _ tt (sym e) ∙ need_no _ _ _ tt (over h)))
 
       pub cursor_good : 3 ≤ at → answers tt ≡ ask (opening doc list at)
       unfolding opening
-      cursor_good h = sym (then _ _ tt (sym ls ∙ ap told good) ∙ (then _ _ tt (sym vs ∙ ap told e) ∙ need_yes _ _ _ tt (le→leb _ _ h)))
+      cursor_good h = sym (then _ _ tt (sym good) ∙ (then _ _ tt (sym e) ∙ need_yes _ _ _ tt (le→leb _ _ h)))
 
 pub ruleset opening_laws = (list_refused, header_refused, cursor_low, cursor_good, rules)
 
 -- ---- a question: refused by the opening, or what it asks after it
 
-module _ {A : Type 0} (doc list : List ℕ) (at : ℕ) (rest : Reading (Unit {0}) A) (v : Verdict) (vs : told v ≡ ask (opening doc list at)) where
-  pub opening_refused : (r : Refusal) → v ≡ Verdict.Refused r → refuses r.number r.place ≡ ask (opening doc list at >> rest)
-  opening_refused r e = sym (stops _ _ tt (sym vs ∙ ap told e))
+module _ {A : Type 0} (doc list : List ℕ) (at : ℕ) (rest : Reading (Unit {0}) A) where
+  pub opening_refused : (r : Refusal) → refuses r.number r.place ≡ ask (opening doc list at) → refuses r.number r.place ≡ ask (opening doc list at >> rest)
+  opening_refused r e = sym (stops _ _ tt (sym e))
 
-  pub opening_passed : (r : Asked A) → v ≡ Verdict.Accepted → r ≡ ask rest → r ≡ ask (opening doc list at >> rest)
-  opening_passed r e h = h ∙ sym (then _ _ tt (sym vs ∙ ap told e))
+  pub opening_passed : (r : Asked A) → answers tt ≡ ask (opening doc list at) → r ≡ ask rest → r ≡ ask (opening doc list at >> rest)
+  opening_passed r e h = h ∙ sym (then _ _ tt (sym e))
 
--- ---- the type byte
+-- ---- a length, by the type that is wanted
 
-pub ruleset enter_laws = (byte_past, byte_is, rules)
+is_same : (a b : ValueType) → a ≡ b → is_type a b ≡ true
+is_same Null b e = rw (sym e)
+is_same False b e = rw (sym e)
+is_same True b e = rw (sym e)
+is_same Signed b e = rw (sym e)
+is_same Unsigned b e = rw (sym e)
+is_same Tiny b e = rw (sym e)
+is_same Binary32 b e = rw (sym e)
+is_same Binary64 b e = rw (sym e)
+is_same String b e = rw (sym e)
+is_same Object b e = rw (sym e)
+is_same Array b e = rw (sym e)
 
--- ---- what follows the type byte
+is_other : (a b : ValueType) → (a ≡ b → ⊥) → is_type a b ≡ false
+is_other Null Null f = absurd (f refl)
+is_other False False f = absurd (f refl)
+is_other True True f = absurd (f refl)
+is_other Signed Signed f = absurd (f refl)
+is_other Unsigned Unsigned f = absurd (f refl)
+is_other Tiny Tiny f = absurd (f refl)
+is_other Binary32 Binary32 f = absurd (f refl)
+is_other Binary64 Binary64 f = absurd (f refl)
+is_other String String f = absurd (f refl)
+is_other Object Object f = absurd (f refl)
+is_other Array Array f = absurd (f refl)
+is_other _ _ f = refl
 
-pub entered_inside : (doc : List ℕ) (at : ℕ) (e : Entered) (b : ℕ) → Enters doc at e → e ≡ Entered.Type b → at < length doc
-entered_inside doc at e b h q = let w : Enters doc at (Entered.Type b) = rw q at h in w.1
+module _ (doc : List ℕ) (at : ℕ) (want : ValueType) where
+  pub wanted_refused : (r : Refusal) → ask (byte_at doc at at) ≡ refuses r.number r.place → ask (wanted_type doc at want) ≡ refuses r.number r.place
+  unfolding wanted_type
+  wanted_refused r q = stops _ _ tt q
 
-module _ {A : Type 0} (doc : List ℕ) (at : ℕ) (f : ℕ → Reading (Unit {0}) A) (e : Entered) (es : Enters doc at e) where
-  pub enters_refused : (r : Refusal) → e ≡ Entered.Refused r → ask (byte_at doc at at >>= f) ≡ refuses r.number r.place
-  enters_refused r q = stops _ _ tt (rw q at es)
+  module _ (b : ℕ) (q : ask (byte_at doc at at) ≡ answers b) where
+    by_head : (o : Option Head) → o ≡ head_of (form_of b) → ask (wanted_type doc at want) ≡ ask (wanted_head doc at want o)
+    unfolding wanted_type
+    by_head o os = then _ _ tt q ∙ rw os
 
-  pub enters_read : (b : ℕ) → e ≡ Entered.Type b → ask (byte_at doc at at >>= f) ≡ ask (f b)
-  enters_read b q = let w : Enters doc at (Entered.Type b) = rw q at es in then _ _ tt w.0
+    pub wanted_reserved : None ≡ head_of (form_of b) → ask (wanted_type doc at want) ≡ refuses 36 at
+    unfolding wanted_head
+    wanted_reserved os = by_head None os
 
--- ---- a length, by the kind that is wanted
-
-module _ (doc : List ℕ) (at want : ℕ) (e : Entered) (es : Enters doc at e) where
-  pub wanted_refused : (r : Refusal) → e ≡ Entered.Refused r → ask (wanted_in doc at want) ≡ refuses r.number r.place
-  unfolding wanted_in
-  wanted_refused r q = enters_refused doc at _ e es r q
-
-  module _ (b : ℕ) (q : e ≡ Entered.Type b) (h : Head) (hs : h ≡ head_of (form_of b)) where
-    by_head : ask (wanted_in doc at want) ≡ ask (wanted_head doc at want h)
-    unfolding wanted_in
-    by_head = enters_read doc at _ e es b q ∙ rw hs
-
-    pub wanted_reserved : h.kind ≡ 11 → ask (wanted_in doc at want) ≡ refuses 36 at
-    unfolding wanted_head choose
-    wanted_reserved k = by_head ∙ rw k
-
-    module _ (n : h.kind ≡ 11 → ⊥) where
-      pub wanted_sized : (c : Numeral) → h.kind ≡ want → ReadsNumeral (length doc) (ask (sized_at doc at h.width h.tiny)) c → ReadsNumeral (length doc) (ask (wanted_in doc at want)) c
+    module _ (h : Head) (hs : Some h ≡ head_of (form_of b)) where
+      pub wanted_sized : (c : Result Numeral Refusal) → h.kind ≡ want → ReadsNumeral (length doc) (ask (sized_at doc at h.width h.tiny)) c → ReadsNumeral (length doc) (ask (wanted_type doc at want)) c
       unfolding wanted_head choose
       wanted_sized c k s =
-          let e : ask (wanted_in doc at want) ≡ ask (sized_at doc at h.width h.tiny) = by_head ∙ rw (ne_eqb h.kind 11 n, eq-eqb h.kind want k) in
+          let e : ask (wanted_type doc at want) ≡ ask (sized_at doc at h.width h.tiny) = by_head _ hs ∙ rw (is_same h.kind want k) in
           rw e s
 
-      pub wanted_other : (h.kind ≡ want → ⊥) → ask (wanted_in doc at want) ≡ refuses 21 at
+      pub wanted_other : (h.kind ≡ want → ⊥) → ask (wanted_type doc at want) ≡ refuses 21 at
       unfolding wanted_head choose
-      wanted_other k = by_head ∙ rw (ne_eqb h.kind 11 n, ne_eqb h.kind want k)
+      wanted_other k = by_head _ hs ∙ rw (is_other h.kind want k)
 
-pub ruleset wanted_laws = (entered_inside, head_width, wanted_refused, wanted_reserved, wanted_sized, wanted_other, rules)
+pub ruleset wanted_laws = (head_width, wanted_refused, wanted_reserved, wanted_sized, wanted_other, rules)
 
--- ---- a question of one kind, which goes on with its length
+-- ---- a question of one type, which goes on with its length
 
-module _ {A : Type 0} (doc : List ℕ) (at : ℕ) (want : Wanted) (rest : Rules.Numeral → Reading (Unit {0}) A) (c : Numeral) (cs : ReadsNumeral (length doc) (ask (wanted_in doc at (wanted_kind want))) c) where
-  pub length_refused : (r : Refusal) → c ≡ Numeral.Refused r → ask (wanted_here doc at want >>= rest) ≡ refuses r.number r.place
-  length_refused r q = stops _ _ tt (wanted_is doc at want tt ∙ rw q at cs)
+module _ {A : Type 0} (doc : List ℕ) (at : ℕ) (want : Wanted) (rest : Rules.Numeral → Reading (Unit {0}) A) where
+  wanted_is : ask (wanted_here doc at want) ≡ ask (wanted_type doc at (type_of want))
+  unfolding wanted_here wanted_type
+  wanted_is = then_same _ _ _ tt (λ b s. wanted_form doc at want (form_of b) s)
 
-  pub length_read : (n p : ℕ) → c ≡ Numeral.Is n p → ask (wanted_here doc at want >>= rest) ≡ ask (rest (numeral n p))
-  length_read n p q = let w : ReadsNumeral (length doc) (ask (wanted_in doc at (wanted_kind want))) (Numeral.Is n p) = rw q at cs in then _ _ tt (wanted_is doc at want tt ∙ w.0)
+  pub length_refused : (r : Refusal) → ask (wanted_type doc at (type_of want)) ≡ refuses r.number r.place → ask (wanted_here doc at want >>= rest) ≡ refuses r.number r.place
+  length_refused r q = stops _ _ tt (wanted_is ∙ q)
+
+  pub length_read : (n p : ℕ) → ask (wanted_type doc at (type_of want)) ≡ answers (numeral n p) → ask (wanted_here doc at want >>= rest) ≡ ask (rest (numeral n p))
+  length_read n p q = then _ _ tt (wanted_is ∙ q)

@@ -1,58 +1,83 @@
 -- The code's own way through the rules of the type byte, of lengths, of kinds and of numbers: by what the constant
 -- tables say. proofs/ shows that each is the rules'.
-use Rattle.std.specs.Prelude.{true, ℕ, ◌+◌, ◌<◌, List, ◌≡◌, ltb, eqb, length}
+use Rattle.std.specs.Prelude.{Bool, true, false, ℕ, ◌+◌, ◌^◌, ◌<◌, List, Option, Some, None}
 use Rattle.json_model.specs.Choose.{choose}
-use Rattle.json_model.specs.Reading.{Reading, ask, answers, refuses, answer, refuse, ◌>>=◌, need}
+use Rattle.json_model.specs.Reading.{Reading, answer, refuse, ◌>>=◌, need}
 use Rattle.fractured_json_rules.specs.ByteTables.{form_of}
 use Rattle.fractured_json_rules.specs.Verdict.{Numeral, byte_at}
 use Rattle.fractured_json_rules.specs.Questions.{Kind, is_null, is_false, is_true, is_number, is_string, is_object, is_array, Bits, extended, tiny_bits}
 use Rattle.fractured_json_values.specs.Heads.{head_of}
-use Rattle.fractured_json_values.specs.Opened.{sized_at, finite_kind}
+use Rattle.fractured_json_values.specs.Opened.{sized_at, finite_type}
 use Rattle.fractured_json_values.specs.declared.types.Head.{Head}
-use Rattle.fractured_json_scalars.specs.declared.enter.Entered.{Entered}
+use Rattle.fractured_json_values.specs.declared.types.ValueType.{ValueType}
+use Rattle.fractured_json_values.specs.declared.types.ValueType.TheVariants.{Null, False, True, Signed, Unsigned, Tiny, Binary32, Binary64, String, Object, Array}
 
--- ---- the type byte at the cursor
+-- ---- the length or payload of a value of the type that is wanted, and where what it measures starts; 21 of any other type
 
-abbrev pub Enters : List ℕ → ℕ → Entered → Type 0
-Enters doc c (Entered.Type b) = (ask (byte_at doc c c) ≡ answers b) × (c < length doc)
-Enters doc c (Entered.Refused r) = ask (byte_at doc c c) ≡ refuses r.number r.place
+abbrev pub is_type : ValueType → ValueType → Bool
+is_type Null Null = true
+is_type False False = true
+is_type True True = true
+is_type Signed Signed = true
+is_type Unsigned Unsigned = true
+is_type Tiny Tiny = true
+is_type Binary32 Binary32 = true
+is_type Binary64 Binary64 = true
+is_type String String = true
+is_type Object Object = true
+is_type Array Array = true
+is_type _ _ = false
 
--- ---- the length of a string (8), object (9) or array (10), and where what it measures starts; 21 of any other kind
+unfoldable pub wanted_head : {S : Type 0} → List ℕ → ℕ → ValueType → Option Head → Reading S Numeral
+wanted_head doc c want None = refuse 36 c
+wanted_head doc c want (Some h) = choose (is_type h.kind want) (sized_at doc c h.width h.tiny) (refuse 21 c)
 
-unfoldable pub wanted_head : {S : Type 0} → List ℕ → ℕ → ℕ → Head → Reading S Numeral
-wanted_head doc c want h = choose (eqb h.kind 11) (refuse 36 c) (choose (eqb h.kind want) (sized_at doc c h.width h.tiny) (refuse 21 c))
-
-unfoldable pub wanted_in : {S : Type 0} → List ℕ → ℕ → ℕ → Reading S Numeral
-wanted_in doc c want = do
+unfoldable pub wanted_type : {S : Type 0} → List ℕ → ℕ → ValueType → Reading S Numeral
+wanted_type doc c want = do
   b ← byte_at doc c c
   wanted_head doc c want (head_of (form_of b))
 
 -- ---- kinds
 
-unfoldable pub scalar_kind : ℕ → Kind
-scalar_kind kind = choose (eqb kind 0) is_null (choose (eqb kind 1) is_false (choose (eqb kind 2) is_true is_number))
+unfoldable pub kind_type : {S : Type 0} → List ℕ → ℕ → ValueType → ℕ → ℕ → Reading S Kind
+kind_type doc c Null width small = answer is_null
+kind_type doc c False width small = answer is_false
+kind_type doc c True width small = answer is_true
+kind_type doc c String width small = sized_at doc c width small >>= λ n. answer (is_string n.is)
+kind_type doc c Object width small = sized_at doc c width small >>= λ n. answer (is_object n.is)
+kind_type doc c Array width small = sized_at doc c width small >>= λ n. answer (is_array n.is)
+kind_type doc c _ width small = answer is_number
 
-unfoldable pub sized_kind : ℕ → ℕ → Kind
-sized_kind kind n = choose (eqb kind 8) (is_string n) (choose (eqb kind 9) (is_object n) (is_array n))
-
-unfoldable pub kind_head : {S : Type 0} → List ℕ → ℕ → Head → Reading S Kind
-kind_head doc c h =
-    choose (ltb h.kind 8) (answer (scalar_kind h.kind))
-    (choose (eqb h.kind 11) (refuse 36 c) (sized_at doc c h.width h.tiny >>= λ n. answer (sized_kind h.kind n.is)))
+unfoldable pub kind_head : {S : Type 0} → List ℕ → ℕ → Option Head → Reading S Kind
+kind_head doc c None = refuse 36 c
+kind_head doc c (Some h) = kind_type doc c h.kind h.width h.tiny
 
 -- ---- numbers
 
 abbrev pub bits_of : ℕ → ℕ → Bits
 bits_of b n = record { type = b; bits = n }
 
--- a number of kind 3 to 7, with the payload n: of a tiny int, its place in the range of tiny ints, which starts at BE
-unfoldable pub number_kind : {S : Type 0} → ℕ → ℕ → ℕ → ℕ → ℕ → Reading S Bits
-number_kind c b kind width n =
-    choose (eqb kind 3) (answer (bits_of b (extended true width n)))
-    (choose (eqb kind 5) (answer (bits_of b (tiny_bits (n + 0xBE)))) (need (finite_kind kind n) 43 c >>= λ _. answer (bits_of b n)))
+-- the payload of a signed int lies in its bytes, and a tiny int's place in the range of tiny ints
+unfoldable pub PayloadSmall : ValueType → ℕ → ℕ → Type 0
+PayloadSmall Signed width n = n < 256 ^ width
+PayloadSmall Tiny width n = n < 64
+PayloadSmall _ width n = Unit {0}
 
-unfoldable pub number_head : {S : Type 0} → List ℕ → ℕ → ℕ → Head → Reading S Bits
-number_head doc c b h =
-    choose (eqb h.kind 11) (refuse 36 c)
-    (choose (ltb h.kind 3) (refuse 21 c)
-    (choose (ltb 7 h.kind) (refuse 21 c) (sized_at doc c h.width h.tiny >>= λ n. number_kind c b h.kind h.width n.is)))
+-- a number with the payload n: of a tiny int, its place in the range of tiny ints, which starts at BE
+unfoldable pub number_type : {S : Type 0} → ℕ → ℕ → ValueType → ℕ → ℕ → Reading S Bits
+number_type c b Signed width n = answer (bits_of b (extended true width n))
+number_type c b Tiny width n = answer (bits_of b (tiny_bits (n + 0xBE)))
+number_type c b kind width n = need (finite_type kind n) 43 c >>= λ _. answer (bits_of b n)
+
+unfoldable pub number_sized : {S : Type 0} → List ℕ → ℕ → ℕ → ValueType → ℕ → ℕ → Reading S Bits
+number_sized doc c b Null width small = refuse 21 c
+number_sized doc c b False width small = refuse 21 c
+number_sized doc c b True width small = refuse 21 c
+number_sized doc c b String width small = refuse 21 c
+number_sized doc c b Object width small = refuse 21 c
+number_sized doc c b Array width small = refuse 21 c
+number_sized doc c b kind width small = sized_at doc c width small >>= λ n. number_type c b kind width n.is
+
+unfoldable pub number_head : {S : Type 0} → List ℕ → ℕ → ℕ → Option Head → Reading S Bits
+number_head doc c b None = refuse 36 c
+number_head doc c b (Some h) = number_sized doc c b h.kind h.width h.tiny

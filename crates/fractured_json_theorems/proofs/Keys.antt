@@ -9,8 +9,8 @@ use lib.ListN.{length, get_or, length-append, get_or-append}
 use Rattle.json_model.specs.Choose.{choose}
 use Rattle.json_model.specs.Texts.{compare_texts, is_equal}
 use Rattle.json_model.specs.Tree.{Tree, null, bool, num, str, arr, obj, Trees, none, more, Members, end, member}
-use Rattle.json_model.specs.declared.Order.{Order}
-use Rattle.json_model.specs.declared.Order.TheVariants.{Below, Equal, Above}
+use Rattle.std.specs.declared.cmp.Ordering.{Ordering}
+use Rattle.std.specs.declared.cmp.Ordering.TheVariants.{Less, Equal, Greater}
 use Rattle.json_model.proofs.Texts.{texts_equal}
 use Rattle.fractured_json_rules.specs.Meaning.{Key, no_key, Keys, key_text, Names, Fresh, KeyIs, as_text, as_back, as_global, ValueIs, ValuesAre, MembersAre}
 use Rattle.fractured_json_rules.specs.KeyList.{met}
@@ -18,10 +18,10 @@ use Rattle.fractured_json_rules.specs.Leads.{FirstOf}
 
 -- ---- two texts that are compared
 
-equal_order : (o : Order) → T (is_equal o) → o ≡ Equal
-equal_order Below h = absurd h
+equal_order : (o : Ordering) → T (is_equal o) → o ≡ Equal
+equal_order Less h = absurd h
 equal_order Equal h = refl
-equal_order Above h = absurd h
+equal_order Greater h = absurd h
 
 pub same_text : (a b : List ℕ) → T (is_equal (compare_texts a b)) → a ≡ b
 same_text a b h = (texts_equal a b).0 (equal_order (compare_texts a b) h)

@@ -4,14 +4,17 @@ use mathlib.Core.Bool.{Bool, true, false}
 use mathlib.Core.List.{List}
 use Prim.Native.Nat.{ℕ}
 use lib.Dec.{ltb, eqb}
+use Rattle.std.specs.Prelude.{Option, Some, None}
 use Rattle.json_model.specs.Choose.{choose}
 use Rattle.json_model.specs.Reading.{halt, done, Reading, ask, answers, refuses}
 use Rattle.json_model.proofs.Reading.{carry, carry_then, carry_need}
 use Rattle.fractured_json_rules.specs.ByteTables.{KeyNumber, in_byte, spelled, form_of}
 use Rattle.fractured_json_rules.specs.Verdict.{byte_at, payload, Numeral, after_second, after_first, key_number_at, header}
 use Rattle.fractured_json_values.specs.Heads.{head_of}
-use Rattle.fractured_json_values.specs.Opened.{sized_at, Opened, open_kind, open_head, opened_at}
+use Rattle.fractured_json_values.specs.Opened.{sized_at, Opened, open_scalar, open_type, open_head, opened_at}
 use Rattle.fractured_json_values.specs.declared.types.Head.{Head}
+use Rattle.fractured_json_values.specs.declared.types.ValueType.{ValueType}
+use Rattle.fractured_json_values.specs.declared.types.ValueType.TheVariants.{String, Object, Array}
 
 module _ {S : Type 0} where
   module _ (doc : List ℕ) where
@@ -56,16 +59,21 @@ module _ {S : Type 0} where
     unfolding sized_at
     carry_sized o w t s = carry_choose (eqb w 0) _ _ _ _ s refl (carry_payload _ _ s)
 
-    carry_kind : (len o kind n past : ℕ) (s : S) → open_kind len o kind n past s ≡ carry s (ask (open_kind len o kind n past))
-    unfolding open_kind
-    carry_kind len o kind n past s =
-        carry_choose (ltb kind 8) _ _ _ _ s (carry_then _ _ _ _ s (carry_need _ _ _ s) (λ u. refl))
-        (carry_choose (eqb kind 8) _ _ _ _ s (carry_then _ _ _ _ s (carry_need _ _ _ s) (λ u. refl))
-        (carry_choose (ltb kind 11) _ _ _ _ s refl refl))
+    carry_scalar : (o : ℕ) (kind : ValueType) (n past : ℕ) (s : S) → open_scalar o kind n past s ≡ carry s (ask (open_scalar o kind n past))
+    unfolding open_scalar
+    carry_scalar o kind n past s = carry_then _ _ _ _ s (carry_need _ _ _ s) (λ u. refl)
 
-    carry_head : (o : ℕ) (h : Head) (s : S) → open_head doc o h s ≡ carry s (ask (open_head doc o h))
+    carry_type : (len o : ℕ) (kind : ValueType) (n past : ℕ) (s : S) → open_type len o kind n past s ≡ carry s (ask (open_type len o kind n past))
+    unfolding open_type
+    carry_type len o String n past s = carry_then _ _ _ _ s (carry_need _ _ _ s) (λ u. refl)
+    carry_type len o Object n past s = refl
+    carry_type len o Array n past s = refl
+    carry_type len o _ n past s = carry_scalar o _ n past s
+
+    carry_head : (o : ℕ) (h : Option Head) (s : S) → open_head doc o h s ≡ carry s (ask (open_head doc o h))
     unfolding open_head
-    carry_head o h s = carry_then _ _ _ _ s (carry_sized _ _ _ s) (λ n. carry_kind _ _ _ _ _ s)
+    carry_head o None s = refl
+    carry_head o (Some h) s = carry_then _ _ _ _ s (carry_sized _ _ _ s) (λ n. carry_type _ _ h.kind _ _ s)
 
     pub carry_opened : (o : ℕ) (s : S) → opened_at doc o s ≡ carry s (ask (opened_at doc o))
     unfolding opened_at

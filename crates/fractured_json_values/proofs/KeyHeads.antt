@@ -1,63 +1,55 @@
 -- A key by what the constant table says of its key byte is the rules' `key_by`, whatever goes on with the number that it carries.
 use mathlib.Core.Path.{◌≡◌, refl, ◌∙◌}
 use mathlib.Core.List.{List}
-use Prim.Native.Nat.{ℕ, ◌≤◌, ◌<◌}
-use native.Mathlib.Omega.{arith}
-use lib.ListN.{length, get_or}
-use Rattle.json_model.specs.Choose.{choose}
-use Rattle.json_model.specs.Reading.{halt, Reading, ask, ◌>>=◌}
+use Prim.Native.Nat.{ℕ}
+use Rattle.std.specs.Prelude.{Option, Some, None}
+use Rattle.json_model.specs.Reading.{halt, done, Reading, refuse, ask, answers, refuses, ◌>>=◌}
 use Rattle.json_model.specs.declared.Refusal.{Refusal}
 use Rattle.json_model.proofs.Reading.{then, stops}
 use Rattle.fractured_json_rules.specs.ByteTables.{in_byte, spelled, KeyForm, immediate, back_reference, global_index, k_reserved, key_form_of}
 use Rattle.fractured_json_rules.specs.Verdict.{byte_at, numeral, key_number_at, key_by}
 use Rattle.fractured_json_rules.specs.Verdict as Rules
-use Rattle.fractured_json_theorems.proofs.Readers.{byte_is, byte_past}
-use Rattle.fractured_json_values.specs.Heads.{key_head_of, key_number_by, numbered_by}
-use Rattle.fractured_json_values.specs.Opened.{ReadsNumeral}
+use Rattle.fractured_json_values.specs.Heads.{key_head, key_head_of, key_number_by, numbered_by}
 use Rattle.fractured_json_values.specs.declared.types.KeyHead.{KeyHead}
-use Rattle.fractured_json_values.specs.declared.values.Numeral.{Numeral}
-use Rattle.fractured_json_values.proofs.Carried.{key_number_done, key_number_halts}
+use Rattle.fractured_json_values.specs.declared.types.KeyKind.{KeyKind}
+use Rattle.fractured_json_values.proofs.Carried.{carry_byte, key_number_done, key_number_halts}
 
 module _ {S A : Type 0} (doc : List ℕ) (o : ℕ) (byLength byNumber byIndex : Rules.Numeral → Reading S A) (s : S) where
-  reserved : (f : KeyForm) → (key_head_of f).kind ≡ 3 → key_by doc o byLength byNumber byIndex f s ≡ halt 36 o s
-  unfolding key_by
-  reserved (immediate (in_byte n)) e = absurd (omega arith)
-  reserved (immediate spelled) e = absurd (omega arith)
-  reserved (back_reference (in_byte n)) e = absurd (omega arith)
-  reserved (back_reference spelled) e = absurd (omega arith)
-  reserved (global_index (in_byte n)) e = absurd (omega arith)
-  reserved (global_index spelled) e = absurd (omega arith)
-  reserved k_reserved e = refl
+  abbrev by_head : Option KeyHead → Reading S A
+  by_head (Some h) = key_number_at doc o (key_number_by h.number) >>= numbered_by byLength byNumber byIndex h.kind
+  by_head None = refuse 36 o
 
-  numbered : (f : KeyForm) → ((key_head_of f).kind ≡ 3 → ⊥)
-      → key_by doc o byLength byNumber byIndex f s ≡ (key_number_at doc o (key_number_by (key_head_of f).spelled (key_head_of f).number) >>= numbered_by byLength byNumber byIndex (key_head_of f).kind) s
-  unfolding key_by numbered_by choose
-  numbered (immediate (in_byte n)) g = refl
-  numbered (immediate spelled) g = refl
-  numbered (back_reference (in_byte n)) g = refl
-  numbered (back_reference spelled) g = refl
-  numbered (global_index (in_byte n)) g = refl
-  numbered (global_index spelled) g = refl
-  numbered k_reserved g = absurd (g refl)
+  by_form : (f : KeyForm) → key_by doc o byLength byNumber byIndex f s ≡ by_head (key_head_of f) s
+  unfolding key_by
+  by_form (immediate (in_byte n)) = refl
+  by_form (immediate spelled) = refl
+  by_form (back_reference (in_byte n)) = refl
+  by_form (back_reference spelled) = refl
+  by_form (global_index (in_byte n)) = refl
+  by_form (global_index spelled) = refl
+  by_form k_reserved = refl
 
   -- ---- the key at a place
 
-  pub past_end : length doc ≤ o → (byte_at doc o o >>= λ b. key_by doc o byLength byNumber byIndex (key_form_of b)) s ≡ halt 35 o s
-  past_end h = stops _ _ s (byte_past doc o o s h)
+  abbrev key_read : Reading S A
+  key_read = byte_at doc o o >>= λ b. key_by doc o byLength byNumber byIndex (key_form_of b)
 
-  module _ (i : o < length doc) (h : KeyHead) (hs : h ≡ key_head_of (key_form_of (get_or doc o 0))) where
-    pub head_reserved : h.kind ≡ 3 → (byte_at doc o o >>= λ b. key_by doc o byLength byNumber byIndex (key_form_of b)) s ≡ halt 36 o s
-    head_reserved e = then _ _ s (byte_is doc o o s i) ∙ reserved _ (rw hs at e)
+  pub byte_refused : (r : Refusal) → ask (byte_at doc o o) ≡ refuses r.number r.place → key_read s ≡ halt r.number r.place s
+  byte_refused r q = stops _ _ s (carry_byte doc o o s ∙ rw q)
 
-    module _ (g : h.kind ≡ 3 → ⊥) where
-      pub head_numbered : (byte_at doc o o >>= λ b. key_by doc o byLength byNumber byIndex (key_form_of b)) s ≡ (key_number_at doc o (key_number_by h.spelled h.number) >>= numbered_by byLength byNumber byIndex h.kind) s
-      head_numbered = then _ _ s (byte_is doc o o s i) ∙ rw hs (numbered _ (rw hs at g))
+  module _ (b : ℕ) (q : ask (byte_at doc o o) ≡ answers b) where
+    byte_read : byte_at doc o o s ≡ done b s
+    byte_read = carry_byte doc o o s ∙ rw q
 
-      module _ (c : Numeral) (cs : ReadsNumeral (length doc) (ask (key_number_at doc o (key_number_by h.spelled h.number))) c) where
-        pub number_refused : (r : Refusal) → c ≡ Numeral.Refused r → (byte_at doc o o >>= λ b. key_by doc o byLength byNumber byIndex (key_form_of b)) s ≡ halt r.number r.place s
-        number_refused r e = head_numbered ∙ stops _ _ s (key_number_halts doc o _ _ _ s (rw e at cs))
+    pub head_reserved : None ≡ key_head_of (key_form_of b) → key_read s ≡ halt 36 o s
+    head_reserved e = then _ _ s byte_read ∙ (by_form _ ∙ rw (← e))
 
-        pub number_read : (n p : ℕ) → c ≡ Numeral.Is n p → (byte_at doc o o >>= λ b. key_by doc o byLength byNumber byIndex (key_form_of b)) s ≡ numbered_by byLength byNumber byIndex h.kind (numeral n p) s
-        number_read n p e =
-            let w : ReadsNumeral (length doc) (ask (key_number_at doc o (key_number_by h.spelled h.number))) (Numeral.Is n p) = rw e at cs in
-            head_numbered ∙ then _ _ s (key_number_done doc o _ _ s w.0)
+    module _ (kind : KeyKind) (number : Option ℕ) (h : Some (key_head kind number) ≡ key_head_of (key_form_of b)) where
+      pub head_numbered : key_read s ≡ (key_number_at doc o (key_number_by number) >>= numbered_by byLength byNumber byIndex kind) s
+      head_numbered = then _ _ s byte_read ∙ (by_form _ ∙ rw (← h))
+
+      pub number_refused : (r : Refusal) → ask (key_number_at doc o (key_number_by number)) ≡ refuses r.number r.place → key_read s ≡ halt r.number r.place s
+      number_refused r e = head_numbered ∙ stops _ _ s (key_number_halts doc o _ _ _ s e)
+
+      pub number_read : (n p : ℕ) → ask (key_number_at doc o (key_number_by number)) ≡ answers (numeral n p) → key_read s ≡ numbered_by byLength byNumber byIndex kind (numeral n p) s
+      number_read n p e = head_numbered ∙ then _ _ s (key_number_done doc o _ _ s e)

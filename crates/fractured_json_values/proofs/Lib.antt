@@ -1,7 +1,6 @@
 pub mod Tables
 pub mod Opening
 pub mod Numbering
-pub mod TextLaws
 pub mod Carried
 pub mod Forms
 pub mod Walks

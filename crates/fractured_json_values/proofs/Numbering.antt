@@ -2,21 +2,21 @@
 use mathlib.Core.Path.{◌≡◌, refl, ap, ◌∙◌}
 use mathlib.Core.Bool.{false}
 use mathlib.Core.List.{List}
-use Prim.Native.Nat.{ℕ, zero, suc, ◌+◌, ◌-◌, ◌*◌, ◌≤◌, ◌<◌}
+use Prim.Native.Nat.{ℕ, ◌+◌, ◌-◌, ◌*◌, ◌≤◌, ◌<◌}
 use native.Mathlib.Omega.{arith}
 use borrow.Author.Rules.{rules}
 use borrow.Author.Tests.{lt-ltb, le-ltb}
 use lib.Dec.{ltb, le→leb}
 use lib.ListN.{length, get_or}
 use Rattle.json_model.specs.Reading.{ask, answers, refuses}
-use Rattle.json_model.proofs.Reading.{then, stops, pass, fail}
-use Rattle.fractured_json_rules.specs.ByteTables.{spelled}
+use Rattle.json_model.specs.declared.Refusal.{Refusal}
+use Rattle.json_model.proofs.Reading.{over, then, stops, pass, fail}
+use Rattle.std.specs.Prelude.{Result}
+use Rattle.fractured_json_rules.specs.ByteTables.{in_byte, spelled}
 use Rattle.fractured_json_rules.specs.Verdict.{numeral, after_second, after_first, key_number_at}
 use Rattle.fractured_json_theorems.proofs.Readers.{byte_is, byte_past}
 use Rattle.fractured_json_values.specs.Opened.{ReadsNumeral}
-use Rattle.fractured_json_values.specs.Heads.{key_number_by}
 use Rattle.fractured_json_values.specs.declared.values.Numeral.{Numeral}
-use Rattle.fractured_json_values.proofs.Opening.{over}
 
 module _ (doc : List ℕ) (at : ℕ) where
   -- ---- the first byte
@@ -34,7 +34,7 @@ module _ (doc : List ℕ) (at : ℕ) where
     unfolding after_first
     first_last l = first ∙ rw (lt-ltb b0 128 l)
 
-    pub first_more : (c : Numeral) → 128 ≤ b0 → ReadsNumeral (length doc) (ask (after_first doc at b0 false)) c → ReadsNumeral (length doc) (ask (key_number_at doc at spelled)) c
+    pub first_more : (c : Result Numeral Refusal) → 128 ≤ b0 → ReadsNumeral (length doc) (ask (after_first doc at b0 false)) c → ReadsNumeral (length doc) (ask (key_number_at doc at spelled)) c
     first_more c l s = rw (first ∙ ap (λ b. ask (after_first doc at b0 b)) (le-ltb b0 128 l)) s
 
   -- ---- the second and the third
@@ -70,18 +70,14 @@ module _ (doc : List ℕ) (at : ℕ) where
           unfolding after_second
           third_last l = second_more ∙ (then _ _ tt (byte_is doc (at + 3) at tt (omega arith)) ∙ rw (← f) (pass _ _ _ _ tt (le→leb _ _ l)))
 
-  -- ---- in the key byte, or after it
+  -- ---- in the key byte
 
-  pub key_number_in_byte : (s n : ℕ) → s ≡ 0 → ask (key_number_at doc at (key_number_by s n)) ≡ answers (numeral n (at + 1))
+  pub key_number_in_byte : (n : ℕ) → ask (key_number_at doc at (in_byte n)) ≡ answers (numeral n (at + 1))
   unfolding key_number_at
-  key_number_in_byte s n e = rw e
-
-  pub key_number_spelled : (s n : ℕ) (c : Numeral) → (s ≡ 0 → ⊥) → ReadsNumeral (length doc) (ask (key_number_at doc at spelled)) c → ReadsNumeral (length doc) (ask (key_number_at doc at (key_number_by s n))) c
-  key_number_spelled zero n c f h = absurd (f refl)
-  key_number_spelled (suc s) n c f h = h
+  key_number_in_byte n = refl
 
 pub ruleset first_laws = (first_short, first_last, first_more, rules)
 
 pub ruleset later_laws = (second_short, second_last, third_short, third_wide, third_last, rules)
 
-pub ruleset key_number_laws = (key_number_in_byte, key_number_spelled, rules)
+pub ruleset key_number_laws = (key_number_in_byte, rules)

@@ -7,14 +7,17 @@ use Prim.Native.Nat.{ℕ, zero, suc, ◌+◌, ◌-◌, ◌≤◌, ◌<◌}
 use native.Mathlib.Omega.{arith}
 use lib.Dec.{leb}
 use lib.ListN.{length}
+use Rattle.std.specs.Prelude.{Some}
 use Rattle.json_model.specs.Choose.{choose}
 use Rattle.json_model.specs.Number.{Float, binary32, binary64, finite}
 use Rattle.json_model.specs.Reading.{Outcome, halt, done, Reading, ask, answers, refuses, answer, follow, ◌>>=◌, need}
 use Rattle.json_model.proofs.Reading.{then, stops, assoc}
 use Rattle.fractured_json_rules.specs.ByteTables.{Width, one, two, four, eight, bytes, Len, tiny, after, Form, f_null, f_bool, f_int, f_float, f_tiny, f_string, f_object, f_array, f_reserved, form_of}
 use Rattle.fractured_json_rules.specs.Verdict.{byte_at, payload, length_at, text_at, Numeral, numeral, in_turn, value_by, value}
-use Rattle.fractured_json_values.specs.Heads.{width_in, tiny_in, head_of}
-use Rattle.fractured_json_values.specs.Opened.{sized_at, Opened, leaf, inside, finite_kind, open_kind, open_head, opened_at, entry}
+use Rattle.fractured_json_values.specs.Heads.{head, width_in, tiny_in, float_type, head_of}
+use Rattle.fractured_json_values.specs.Opened.{sized_at, Opened, leaf, inside, finite_type, open_scalar, open_type, open_head, opened_at, entry}
+use Rattle.fractured_json_values.specs.declared.types.ValueType.{ValueType}
+use Rattle.fractured_json_values.specs.declared.types.ValueType.TheVariants.{Signed, Unsigned, String, Object, Array}
 use Rattle.fractured_json_values.proofs.Carried.{opened_done, opened_halts}
 use Rattle.fractured_json_values.proofs.Forms.{every_form}
 
@@ -83,8 +86,12 @@ module _ {S : Type 0} where
 
   module _ (doc : List ℕ) (o : ℕ) (array object : Numeral → Reading S ℕ) where
     -- what is left of a value, once its length or payload n has been read
-    abbrev rest : ℕ → ℕ → ℕ → Reading S ℕ
-    rest kind n past = open_kind (length doc) o kind n past >>= on_opened array object
+    abbrev rest : ValueType → ℕ → ℕ → Reading S ℕ
+    rest kind n past = open_type (length doc) o kind n past >>= on_opened array object
+
+    -- a value by the head of its type byte
+    abbrev headed : ValueType → ℕ → ℕ → Reading S ℕ
+    headed kind width small = sized_at doc o width small >>= λ n. rest kind n.is n.past
 
     -- a test before an end
     tested : (t : Bool) (n p e : ℕ) (s : S) → (need t n p >>= λ _. answer e) s ≡ ((need t n p >>= λ _. answer (leaf e)) >>= on_opened array object) s
@@ -92,34 +99,35 @@ module _ {S : Type 0} where
     tested true n p e s = refl
     tested false n p e s = refl
 
-    float_form : (w : Width) (s : S) → value_by doc o array object (f_float (float_of w) w) s ≡ (sized_at doc o (bytes w) 0 >>= λ n. rest (head_of (f_float (float_of w) w)).kind n.is n.past) s
-    unfolding value_by open_kind finite_kind choose
+    float_form : (w : Width) (s : S) → value_by doc o array object (f_float (float_of w) w) s ≡ headed (float_type w) (bytes w) 0 s
+    unfolding value_by open_type open_scalar finite_type
     float_form one s = rw (payload_sized doc o one) (then_same _ _ _ s (λ n z. tested (finite binary32 n.is) 43 o n.past z))
     float_form two s = rw (payload_sized doc o two) (then_same _ _ _ s (λ n z. tested (finite binary32 n.is) 43 o n.past z))
     float_form four s = rw (payload_sized doc o four) (then_same _ _ _ s (λ n z. tested (finite binary32 n.is) 43 o n.past z))
     float_form eight s = rw (payload_sized doc o eight) (then_same _ _ _ s (λ n z. tested (finite binary64 n.is) 43 o n.past z))
 
-    string_form : (x : Len) (s : S) → value_by doc o array object (f_string x) s ≡ (sized_at doc o (width_in x) (tiny_in x) >>= λ n. rest 8 n.is n.past) s
-    unfolding value_by text_at open_kind choose
+    string_form : (x : Len) (s : S) → value_by doc o array object (f_string x) s ≡ headed String (width_in x) (tiny_in x) s
+    unfolding value_by text_at open_type
     string_form x s = rw (length_sized doc o x) (then_same _ _ _ s (λ n z. tested (leb (n.past + n.is) (length doc)) 35 o (n.past + n.is) z))
 
-    sized_form : (f : Form) → Sound f → (s : S) → value_by doc o array object f s ≡ (sized_at doc o (head_of f).width (head_of f).tiny >>= λ n. rest (head_of f).kind n.is n.past) s
-    unfolding value_by sized_at open_kind finite_kind choose ◌>>=◌ follow need
-    sized_form f_null h s = refl
-    sized_form (f_bool false) h s = refl
-    sized_form (f_bool true) h s = refl
-    sized_form (f_tiny b) h s = refl
-    sized_form (f_int true w) h s = ap (λ m. (m >>= λ n. answer n.past) s) (payload_sized doc o w)
-    sized_form (f_int false w) h s = ap (λ m. (m >>= λ n. answer n.past) s) (payload_sized doc o w)
-    sized_form (f_float f w) h s = rw h (float_form w s)
-    sized_form (f_string x) h s = string_form x s
-    sized_form (f_object x) h s = ap (λ m. (m >>= object) s) (length_sized doc o x)
-    sized_form (f_array x) h s = ap (λ m. (m >>= array) s) (length_sized doc o x)
-    sized_form f_reserved h s = refl
+    -- the head's own reading, put in order
+    turned : (kind : ValueType) (width small : ℕ) (s : S) → headed kind width small s ≡ (open_head doc o (Some (head kind width small)) >>= on_opened array object) s
+    unfolding open_head
+    turned kind width small s = sym (assoc _ _ (on_opened array object) s)
 
     value_form : (f : Form) → Sound f → (s : S) → value_by doc o array object f s ≡ (open_head doc o (head_of f) >>= on_opened array object) s
-    unfolding open_head
-    value_form f h s = sized_form f h s ∙ sym (assoc _ _ (on_opened array object) s)
+    unfolding value_by open_head sized_at open_type open_scalar finite_type choose ◌>>=◌ follow need
+    value_form f_null h s = refl
+    value_form (f_bool false) h s = refl
+    value_form (f_bool true) h s = refl
+    value_form (f_tiny b) h s = refl
+    value_form (f_int true w) h s = ap (λ m. (m >>= λ n. answer n.past) s) (payload_sized doc o w) ∙ turned Signed (bytes w) 0 s
+    value_form (f_int false w) h s = ap (λ m. (m >>= λ n. answer n.past) s) (payload_sized doc o w) ∙ turned Unsigned (bytes w) 0 s
+    value_form (f_float f w) h s = rw h (float_form w s) ∙ turned (float_type w) (bytes w) 0 s
+    value_form (f_string x) h s = string_form x s ∙ turned String (width_in x) (tiny_in x) s
+    value_form (f_object x) h s = ap (λ m. (m >>= object) s) (length_sized doc o x) ∙ turned Object (width_in x) (tiny_in x) s
+    value_form (f_array x) h s = ap (λ m. (m >>= array) s) (length_sized doc o x) ∙ turned Array (width_in x) (tiny_in x) s
+    value_form f_reserved h s = refl
 
     pub value_opened : (s : S) → (byte_at doc o o >>= λ b. value_by doc o array object (form_of b)) s ≡ (opened_at doc o >>= on_opened array object) s
     unfolding opened_at

@@ -1,17 +1,12 @@
 // Rules 31 to 34, which the check and every question apply first.
 ghost use Rattle.std.specs.Prelude.{◌≡◌};
-ghost use Rattle.json_model.specs.Reading.{ask, refuses, told};
+ghost use Rattle.json_model.specs.Reading.{ask, told};
 ghost use Rattle.fractured_json_rules.specs.Verdict.{header};
 
 use json_model::limits::{LEAST_FRACTURED, LONGEST};
-use json_model::{Refusal, Verdict};
+use json_model::{Verdict, refuse};
 
-fn refuse(number: u32, place: usize) -> Verdict
-    ensures { told result ≡ refuses number place }
-{
-    Verdict::Refused(Refusal { number, place })
-}
-
+#[tactic(auto, using(crate::proofs::Headers::header_laws))]
 pub fn read_header(doc: &[u8]) -> Verdict
     ensures { told result ≡ ask (header doc.now) }
 {
@@ -22,14 +17,11 @@ pub fn read_header(doc: &[u8]) -> Verdict
     if LONGEST < len {
         return refuse(32, len);
     }
-    if doc[0] != 0x46 {
-        return refuse(33, 0);
-    }
-    if doc[1] != 0x4A {
+    if !doc.starts_with(b"FJ") {
         return refuse(33, 0);
     }
     if doc[2] != 1 {
         return refuse(34, 2);
     }
-    Verdict::Accepted
+    Ok(())
 }

@@ -1,5 +1,5 @@
-// What the check and the questions share: the constant tables of type and key bytes, the value and the key number at a place,
-// texts and the header.
+// What the check and the questions share: the constant tables of type and key bytes, the value and the key number at a
+// place, texts and the header.
 #![tactic(auto)]
 
 pub mod header;

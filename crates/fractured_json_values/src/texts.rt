@@ -1,11 +1,12 @@
-// Texts of the document, and the words and room of a key table.
-ghost use Rattle.std.specs.Prelude.{◌≡◌, ◌^◌, ◌<◌, length, get_or};
+// Texts of the document or the key list, and the words and room of a key table.
+ghost use Rattle.std.specs.Prelude.{◌≡◌, ◌/◌, ◌^◌, ◌<◌, min, length, get_or};
 ghost use Rattle.json_model.specs.Bytes.{part};
 ghost use Rattle.fractured_json_rules.specs.KeyTable.{room_of};
 
 use json_model::limits::MOST_KEYS;
 
-// The bytes of a text that start at a place, as far as the document goes.
+// The bytes of a text that start at a place, as far as the document goes. By tests: `get` gives nothing where a text is
+// cut short, and this gives what is there.
 pub fn text_of(doc: &[u8], start: usize, len: usize) -> &[u8]
     ensures { result.now ≡ part doc.now start len }
 {
@@ -19,7 +20,8 @@ pub fn text_of(doc: &[u8], start: usize, len: usize) -> &[u8]
     &doc[start..end]
 }
 
-// The word at a place of the table, as a number to count with.
+// The word at a place of the table, as a number to count with. Its callers know that the word is there and pay for no
+// test.
 pub fn word_of(keys: &[u32], i: usize) -> usize
     requires { i < length keys.now }
     ensures { (result ≡ get_or keys.now i 0) × (result < 2 ^ 32) }
@@ -27,13 +29,17 @@ pub fn word_of(keys: &[u32], i: usize) -> usize
     keys[i] as usize
 }
 
+// How many pairs of neighbours there are in a slice, up to a number.
+pub fn pairs_in<T>(items: &[T], most: usize) -> usize
+    ensures { result ≡ min most (length items.now / 2) }
+{
+    most.min(items.len() / 2)
+}
+
 // How many keys a table has room for.
+#[tactic(auto, unfolding(fractured_json_rules::specs::KeyTable::room_of))]
 pub fn room_of(keys: &[u32]) -> usize
     ensures { result ≡ room_of keys.now }
 {
-    let half = keys.len() / 2;
-    if half < MOST_KEYS {
-        return half;
-    }
-    MOST_KEYS
+    pairs_in(keys, MOST_KEYS)
 }

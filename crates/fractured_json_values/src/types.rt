@@ -1,16 +1,48 @@
-// What a type byte and a key byte stand for, out of constant tables: the ranges of bytes in the order of document 000, and the
-// widths of what stands after a byte. A byte in no range is reserved.
+// What a type byte and a key byte stand for, out of constant tables: the ranges of bytes in the order of document 000,
+// and the widths of what stands after a byte. A byte in no range is reserved.
 //
 // The ranges are looked up at constant places, so that each test is one comparison with a number.
-ghost use Rattle.std.specs.Prelude.{◌≡◌, ◌+◌, ◌≤◌, ◌<◌};
+ghost use Rattle.std.specs.Prelude.{◌≡◌, ◌+◌, ◌≤◌, ◌<◌, Some};
 ghost use Rattle.fractured_json_rules.specs.ByteTables.{form_of, key_form_of};
-ghost use Rattle.fractured_json_values.specs.Heads.{head_of, key_head_of};
+ghost use Rattle.fractured_json_values.specs.Heads.{Stands, head, head_of, key_head, key_head_of};
 
-// The ranges of type bytes, by start and length: null, false, true; numbers; strings, objects and arrays with a length after
-// the byte; tiny strings, tiny objects, tiny arrays, tiny ints.
-const STARTS: [u8; 11] = [0, 1, 2, 3, 13, 16, 19, 22, 110, 158, 190];
+// A range of bytes: the first of them, and how many there are.
+#[derive(Clone, Copy)]
+struct Range {
+    at: u8,
+    len: u8,
+}
 
-const LENGTHS: [u8; 11] = [1, 1, 1, 10, 3, 3, 3, 88, 48, 32, 64];
+impl Range {
+    // The place in the range of a byte that is not before it; past its end none.
+    #[inline(always)]
+    fn place(self, b: u8) -> Option<usize>
+        requires { self.at ≤ b }
+        ensures { Stands b self.at self.len result }
+    {
+        let place = b - self.at;
+        if place < self.len {
+            return Some(place as usize);
+        }
+        None
+    }
+}
+
+// The ranges of type bytes: null, false, true; numbers; strings, objects and arrays with a length after the byte; tiny
+// strings, tiny objects, tiny arrays, tiny ints.
+const TYPES: [Range; 11] = [
+    Range { at: 0, len: 1 },
+    Range { at: 1, len: 1 },
+    Range { at: 2, len: 1 },
+    Range { at: 3, len: 10 },
+    Range { at: 13, len: 3 },
+    Range { at: 16, len: 3 },
+    Range { at: 19, len: 3 },
+    Range { at: 22, len: 88 },
+    Range { at: 110, len: 48 },
+    Range { at: 158, len: 32 },
+    Range { at: 190, len: 64 },
+];
 
 // The payload widths of the numbers: int8 to uint64, each signed and unsigned, binary32 and binary64.
 pub(crate) const NUMBER_WIDTHS: [u8; 10] = [1, 1, 2, 2, 4, 4, 8, 8, 4, 8];
@@ -18,163 +50,185 @@ pub(crate) const NUMBER_WIDTHS: [u8; 10] = [1, 1, 2, 2, 4, 4, 8, 8, 4, 8];
 // The widths of a length after its byte.
 const LENGTH_WIDTHS: [u8; 3] = [1, 2, 4];
 
-// The ranges of key bytes: immediate, back reference and global index with a v_uint16 after the byte; the same three with the
-// number in the byte.
-const KEY_STARTS: [u8; 6] = [0, 1, 2, 3, 87, 171];
+// The ranges of key bytes: immediate, back reference and global index with a v_uint16 after the byte; the same three
+// with the number in the byte.
+const KEYS: [Range; 6] = [
+    Range { at: 0, len: 1 },
+    Range { at: 1, len: 1 },
+    Range { at: 2, len: 1 },
+    Range { at: 3, len: 84 },
+    Range { at: 87, len: 84 },
+    Range { at: 171, len: 84 },
+];
 
-const KEY_LENGTHS: [u8; 6] = [1, 1, 1, 84, 84, 84];
+// The types of value by their type bytes, in an order that puts those with a length last.
+#[derive(Clone, Copy, PartialEq, Eq)]
+pub enum ValueType {
+    Null,
+    False,
+    True,
+    Signed,
+    Unsigned,
+    Tiny,
+    Binary32,
+    Binary64,
+    String,
+    Object,
+    Array,
+}
 
-// What the tables say of a type byte. Kind: 0 null, 1 false, 2 true, 3 signed int, 4 unsigned int, 5 tiny int, 6 binary32,
-// 7 binary64, 8 string, 9 object, 10 array, 11 reserved. `tiny` is the byte less the first byte of its range.
+// What the tables say of a type byte. `tiny` is the byte less the first byte of its range. Width 0 and `tiny` stay two
+// numbers: an enum of them would be matched again in `sized`, `open_at` and `number_type`.
 #[derive(Clone, Copy)]
 pub struct Head {
-    pub kind: u8,
+    pub kind: ValueType,
     pub width: usize,
     pub tiny: usize,
 }
 
 // The i-th number.
+#[tactic(auto, using(crate::proofs::Tables::number_laws))]
 fn number_head(i: u8) -> Head
     requires { i < 10 }
-    ensures { result ≡ head_of (form_of (i + 3)) }
+    ensures { Some result ≡ head_of (form_of (i + 3)) }
 {
     let width = NUMBER_WIDTHS[i as usize] as usize;
-    if i < 8 {
-        return Head {
-            kind: 3 + i % 2,
-            width,
-            tiny: 0,
-        };
-    }
+    let kind = match i {
+        8 => ValueType::Binary32,
+        9 => ValueType::Binary64,
+        _ if i % 2 == 0 => ValueType::Signed,
+        _ => ValueType::Unsigned,
+    };
     Head {
-        kind: i - 2,
+        kind,
         width,
         tiny: 0,
     }
 }
 
 // The i-th of the types with a length after the byte: three widths each of strings, objects and arrays.
+#[tactic(auto, using(crate::proofs::Tables::length_laws))]
 fn length_head(i: u8) -> Head
     requires { i < 9 }
-    ensures { result ≡ head_of (form_of (i + 13)) }
+    ensures { Some result ≡ head_of (form_of (i + 13)) }
 {
+    let width = LENGTH_WIDTHS[(i % 3) as usize] as usize;
+    let kind = match i / 3 {
+        0 => ValueType::String,
+        1 => ValueType::Object,
+        _ => ValueType::Array,
+    };
     Head {
-        kind: 8 + i / 3,
-        width: LENGTH_WIDTHS[(i % 3) as usize] as usize,
+        kind,
+        width,
         tiny: 0,
     }
 }
 
-// A byte with a tiny length or int in it, or a reserved one.
-fn tiny_head(b: u8) -> Head
+// A byte with a tiny length or int in it.
+fn tiny(kind: ValueType, tiny: usize) -> Option<Head>
+    ensures { result ≡ Some (head kind 0 tiny) }
+{
+    Some(Head {
+        kind,
+        width: 0,
+        tiny,
+    })
+}
+
+// A byte from the tiny strings on; of a reserved one none.
+#[tactic(auto, using(crate::proofs::Tables::tiny_laws))]
+fn tiny_head(b: u8) -> Option<Head>
     requires { 22 ≤ b }
     ensures { result ≡ head_of (form_of b) }
 {
-    let string = b - STARTS[7];
-    if string < LENGTHS[7] {
-        return Head {
-            kind: 8,
-            width: 0,
-            tiny: string as usize,
-        };
+    if let Some(place) = TYPES[7].place(b) {
+        return tiny(ValueType::String, place);
     }
-    let object = b - STARTS[8];
-    if object < LENGTHS[8] {
-        return Head {
-            kind: 9,
-            width: 0,
-            tiny: object as usize,
-        };
+    if let Some(place) = TYPES[8].place(b) {
+        return tiny(ValueType::Object, place);
     }
-    let array = b - STARTS[9];
-    if array < LENGTHS[9] {
-        return Head {
-            kind: 10,
-            width: 0,
-            tiny: array as usize,
-        };
+    if let Some(place) = TYPES[9].place(b) {
+        return tiny(ValueType::Array, place);
     }
-    let int = b - STARTS[10];
-    if int < LENGTHS[10] {
-        return Head {
-            kind: 5,
-            width: 0,
-            tiny: int as usize,
-        };
+    if let Some(place) = TYPES[10].place(b) {
+        return tiny(ValueType::Tiny, place);
     }
-    Head {
-        kind: 11,
-        width: 0,
-        tiny: 0,
-    }
+    None
 }
 
-pub fn head_of(b: u8) -> Head
+// None of a reserved byte.
+#[tactic(auto, using(crate::proofs::Tables::type_laws))]
+pub fn head_of(b: u8) -> Option<Head>
     ensures { result ≡ head_of (form_of b) }
 {
-    if b < STARTS[3] {
-        return Head {
-            kind: b,
+    if b < TYPES[3].at {
+        let kind = match b {
+            0 => ValueType::Null,
+            1 => ValueType::False,
+            _ => ValueType::True,
+        };
+        return Some(Head {
+            kind,
             width: 0,
             tiny: 0,
-        };
+        });
     }
-    let i = b - STARTS[3];
-    if i < LENGTHS[3] {
-        return number_head(i);
+    let i = b - TYPES[3].at;
+    if i < TYPES[3].len {
+        return Some(number_head(i));
     }
-    if b < STARTS[7] {
-        return length_head(b - STARTS[4]);
+    if b < TYPES[7].at {
+        return Some(length_head(b - TYPES[4].at));
     }
     tiny_head(b)
 }
 
-// What the tables say of a key byte. Kind: 0 immediate, 1 back reference, 2 global index, 3 reserved. Where no v_uint16 is
-// spelled after the byte, `number` is the byte less the first byte of its range.
+// The kinds of key.
 #[derive(Clone, Copy)]
-pub struct KeyHead {
-    pub kind: u8,
-    pub spelled: u8,
-    pub number: usize,
+pub enum KeyKind {
+    Immediate,
+    Back,
+    Global,
 }
 
-pub fn key_head(b: u8) -> KeyHead
+// What the tables say of a key byte: its kind, and the number in it (the byte less the first byte of its range) unless
+// a v_uint16 is spelled after it.
+#[derive(Clone, Copy)]
+pub struct KeyHead {
+    pub kind: KeyKind,
+    pub number: Option<usize>,
+}
+
+// A key byte that is not reserved.
+fn key(kind: KeyKind, number: Option<usize>) -> Option<KeyHead>
+    ensures { result ≡ Some (key_head kind number) }
+{
+    Some(KeyHead { kind, number })
+}
+
+// None for a reserved byte.
+#[tactic(auto, using(crate::proofs::Tables::key_laws))]
+pub fn key_head(b: u8) -> Option<KeyHead>
     ensures { result ≡ key_head_of (key_form_of b) }
 {
-    if b < KEY_STARTS[3] {
-        return KeyHead {
-            kind: b,
-            spelled: 1,
-            number: 0,
-        };
+    if b == KEYS[0].at {
+        return key(KeyKind::Immediate, None);
     }
-    let immediate = b - KEY_STARTS[3];
-    if immediate < KEY_LENGTHS[3] {
-        return KeyHead {
-            kind: 0,
-            spelled: 0,
-            number: immediate as usize,
-        };
+    if b == KEYS[1].at {
+        return key(KeyKind::Back, None);
     }
-    let back = b - KEY_STARTS[4];
-    if back < KEY_LENGTHS[4] {
-        return KeyHead {
-            kind: 1,
-            spelled: 0,
-            number: back as usize,
-        };
+    if b == KEYS[2].at {
+        return key(KeyKind::Global, None);
     }
-    let global = b - KEY_STARTS[5];
-    if global < KEY_LENGTHS[5] {
-        return KeyHead {
-            kind: 2,
-            spelled: 0,
-            number: global as usize,
-        };
+    if let Some(place) = KEYS[3].place(b) {
+        return key(KeyKind::Immediate, Some(place));
     }
-    KeyHead {
-        kind: 3,
-        spelled: 0,
-        number: 0,
+    if let Some(place) = KEYS[4].place(b) {
+        return key(KeyKind::Back, Some(place));
     }
+    if let Some(place) = KEYS[5].place(b) {
+        return key(KeyKind::Global, Some(place));
+    }
+    None
 }

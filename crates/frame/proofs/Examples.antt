@@ -6,7 +6,8 @@ use mathlib.Core.Path.{◌≡◌, refl}
 use native.Mathlib.Omega.{arith}
 use Rattle.json_model.specs.Choose.{choose}
 use Rattle.json_model.specs.Reading.{halt, done}
-use Rattle.json_model.specs.declared.Verdict.{Verdict}
+use Rattle.std.specs.Prelude.{Result, Ok, Err}
+use Rattle.json_model.specs.declared.Refusal.{Refusal}
 use Rattle.frame_rules.specs.Frame as Frame
 use Rattle.frame_rules.specs.Frame.{nibble, bytes_of}
 use Rattle.frame_rules.specs.Texts.{ascii}
@@ -16,11 +17,11 @@ use Rattle.frame.specs.Written.{Written}
 use Rattle.frame.specs.declared.Answer.{Answer}
 
 -- each case of an answer
-abbrev refused : Verdict
-refused = Verdict.Refused (record { place = 16; number = 5 })
+abbrev refused : Result (Unit {0}) Refusal
+refused = Err (record { place = 16; number = 5 })
 
 pub answers_say :
-    map told_answer (Answer.Long ∷ Answer.Hex ∷ Answer.Binary Verdict.Accepted ∷ Answer.Binary refused ∷ Answer.Fractured Verdict.Accepted ∷ Answer.Fractured refused ∷ [])
+    map told_answer (Answer.Long ∷ Answer.Hex ∷ Answer.Binary (Ok tt) ∷ Answer.Binary refused ∷ Answer.Fractured (Ok tt) ∷ Answer.Fractured refused ∷ [])
     ≡ Frame.long ∷ Frame.hex ∷ Frame.binary (done tt tt) ∷ Frame.binary (halt 5 16 tt) ∷ Frame.fractured (done tt tt) ∷ Frame.fractured (halt 5 16 tt) ∷ []
 answers_say = refl
 

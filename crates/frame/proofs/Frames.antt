@@ -1,19 +1,20 @@
 -- One law for each way through the functions of lib.rt: its premises are the tests as the code makes them.
 use mathlib.Core.Path.{◌≡◌, refl, sym, ◌∙◌, ap}
-use mathlib.Core.Bool.{Bool, true, false}
-use mathlib.Core.List.{List}
+use mathlib.Core.Bool.{Bool, true, false, ◌&&◌}
+use mathlib.Core.List.{List, [], ◌∷◌}
 use mathlib.Core.Option.{some, none}
 use Prim.Native.Nat.{ℕ, ◌*◌, ◌/◌, ◌<◌, ◌≤◌}
-use native.Mathlib.Omega.{arith}
 use borrow.Author.Rules.{rules}
-use borrow.Author.Tests.{lt-ltb, le-ltb, ne_eqb}
+use borrow.Author.Tests.{lt-ltb, le-ltb, ne_eqb, eq-eqb, eqb-true, eqb-false}
 use lib.Dec.{eqb}
-use lib.ListN.{length, get_or, take, replicate, get_or-eq_default}
-use lib.Seq.{length-take-le}
+use lib.ListN.{length, take, replicate}
+use Rattle.std.specs.Prelude.{nat_eq}
+use Rattle.std.specs.List.{starts_with}
 use Rattle.json_model.specs.Choose.{choose}
 use Rattle.json_model.specs.Limits.{longest_line, bench_marks, bench_keys}
 use Rattle.json_model.specs.Reading.{told, verdict_of}
-use Rattle.json_model.specs.declared.Verdict.{Verdict}
+use Rattle.std.specs.Prelude.{Result}
+use Rattle.json_model.specs.declared.Refusal.{Refusal}
 use Rattle.binary_json_rules.specs.Verdict as Binary
 use Rattle.fractured_json_rules.specs.KeyList.{no_names}
 use Rattle.fractured_json_rules.specs.Verdict as Fractured
@@ -28,25 +29,31 @@ use Rattle.frame_rules.specs.Frame as Frame
 
 -- ---- the format
 
-either : (b : Bool) → choose b false false ≡ false
+turned : (x k : ℕ) → eqb k x ≡ eqb x k
+turned x k = go (eqb x k) refl
+  where
+    go : (b : Bool) → eqb x k ≡ b → eqb k x ≡ b
+    go true e = eq-eqb k x (sym (eqb-true x k e))
+    go false e = ne_eqb k x (λ q. eqb-false x k e (sym q))
+
+first_only : (b : Bool) → (b && false) ≡ choose b false false
 unfolding choose
-either true = refl
-either false = refl
+first_only true = refl
+first_only false = refl
 
-module _ (doc : List ℕ) where
-  pub too_short : length doc < 2 → false ≡ is_fractured doc
-  unfolding is_fractured
-  too_short h = let d : get_or doc 1 0 ≡ 0 = get_or-eq_default doc 0 (omega arith) in rw d (sym (either (eqb (get_or doc 0 0) 0x46)))
+first_and_second : (b d : Bool) → (b && (d && true)) ≡ choose b d false
+unfolding choose
+first_and_second true true = refl
+first_and_second true false = refl
+first_and_second false d = refl
 
-  pub by_second : get_or doc 0 0 ≡ 0x46 → eqb (get_or doc 1 0) 0x4A ≡ is_fractured doc
-  unfolding is_fractured choose
-  by_second e = rw e
+pub starts : (doc : List ℕ) → starts_with nat_eq doc (0x46 ∷ 0x4A ∷ []) ≡ is_fractured doc
+unfolding is_fractured choose
+starts [] = refl
+starts (x ∷ []) = rw (turned x 0x46) (first_only (eqb x 0x46))
+starts (x ∷ y ∷ doc) = rw (turned x 0x46, turned y 0x4A) (first_and_second (eqb x 0x46) (eqb y 0x4A))
 
-  pub other_first : (get_or doc 0 0 ≡ 0x46 → ⊥) → false ≡ is_fractured doc
-  unfolding is_fractured choose
-  other_first f = rw (ne_eqb (get_or doc 0 0) 0x46 f)
-
-pub ruleset format_laws = (too_short, by_second, other_first, rules)
+pub ruleset format_laws = (starts, rules)
 
 -- ---- a frame
 
@@ -58,11 +65,11 @@ pub with_room : (doc words after : List ℕ) (c : Checked) → told_checked c af
     → told c.verdict ≡ verdict_of (Fractured.verdict bench_keys doc no_names)
 with_room doc words after c e l = ap (λ k. k.verdict) e ∙ rw (room_is words l)
 
-pub with_marks : (doc marks after : List ℕ) (v : Verdict) → told_marks v after ≡ Binary.verdict doc marks → marks ≡ replicate bench_marks 0
+pub with_marks : (doc marks after : List ℕ) (v : Result (Unit {0}) Refusal) → told_marks v after ≡ Binary.verdict doc marks → marks ≡ replicate bench_marks 0
     → told v ≡ verdict_of (Binary.verdict doc (replicate bench_marks 0))
 with_marks doc marks after v e l = verdict_told v after ∙ (ap verdict_of e ∙ rw l)
 
-module _ (doc : List ℕ) (b : Bool) (f : b ≡ is_fractured doc) (v : Verdict) where
+module _ (doc : List ℕ) (b : Bool) (f : b ≡ is_fractured doc) (v : Result (Unit {0}) Refusal) where
   pub as_fractured : b ≡ true → told v ≡ verdict_of (Fractured.verdict bench_keys doc no_names) → Frame.fractured (told v) ≡ frame_of doc
   unfolding frame_of choose
   as_fractured t e = rw (sym f, t, e)
@@ -87,10 +94,4 @@ module _ (line : List ℕ) where
     unfolding answer_of choose
     answered e a w = let n : bytes_of line ≡ some (take (length line / 2) out) = rw e at d in rw (le-ltb longest_line (length line) h, n, w)
 
--- a part of a text has the length that it was asked for
-pub counted : (n : ℕ) (xs : List ℕ) → n ≤ length xs → n ≡ length (take n xs)
-counted n xs h = sym (length-take-le n xs h)
-
-pub ruleset part_laws = (counted, rules)
-
-pub ruleset frame_laws = (with_room, with_marks, counted, as_fractured, as_binary, too_long, not_hex, answered, rules)
+pub ruleset frame_laws = (with_room, with_marks, as_fractured, as_binary, too_long, not_hex, answered, rules)

@@ -1,48 +1,56 @@
--- Hexadecimal: the table of hex.rt against the rule, by one computed test over all 256 characters, and a law for each way
--- through a turn of the loop.
+-- Hexadecimal: what each character stands for, and a law for each way through a turn of the loop.
 use mathlib.Core.Path.{◌≡◌, refl, sym, ◌∙◌, ap}
-use mathlib.Core.Bool.{Bool}
+use mathlib.Core.Bool.{Bool, true, false}
 use mathlib.Core.List.{List, [], ◌∷◌, ◌++◌, append-nil}
 use mathlib.Core.Option.{Option, some, none}
 use Prim.Native.Nat.{ℕ, suc, ◌+◌, ◌*◌, ◌/◌, ◌%◌, ◌<◌, ◌≤◌}
 use native.Mathlib.Omega.{arith}
 use borrow.Author.Rules.{rules}
-use borrow.Author.Tests.{lt-ltb, le-ltb}
-use lib.Dec.{T, ltb, eqb, ltb→lt, eqb→eq}
-use lib.ListN.{length, get_or, take, drop, set, replicate, drop_of_length-le}
+use borrow.Author.Tests.{lt-ltb, eqb-true, eqb-false}
+use lib.Dec.{eqb}
+use lib.ListN.{length, get_or, take, drop, set, drop_of_length-le}
 use lib.Seq.{append_snoc, drop-cons, take-suc-set}
+use Rattle.std.specs.Char.{digit_value}
+use Rattle.std.proofs.lemmas.Bool.Decides.{nat_tests}
 use Rattle.json_model.specs.Choose.{choose}
-use Rattle.json_model.proofs.Table.{both, split, every, at}
 use Rattle.frame_rules.specs.Frame.{nibble, before, bytes_of}
+use Rattle.frame.specs.Decoded.{Decoded}
 
 -- ---- characters
 
-abbrev pub nibbles : List ℕ
-nibbles =
-    replicate 48 16 ++ (0 ∷ 1 ∷ 2 ∷ 3 ∷ 4 ∷ 5 ∷ 6 ∷ 7 ∷ 8 ∷ 9
-    ∷ (replicate 7 16 ++ (10 ∷ 11 ∷ 12 ∷ 13 ∷ 14 ∷ 15
-    ∷ (replicate 26 16 ++ (10 ∷ 11 ∷ 12 ∷ 13 ∷ 14 ∷ 15
-    ∷ replicate 153 16)))))
+-- std's digits in base 36 are the format's up to F
+digits_agree : (c : ℕ) → (digit_value c < 16 → digit_value c ≡ nibble c) × (16 ≤ digit_value c → nibble c ≡ 16)
+unfolding nibble choose
+digits_agree c = grind (arith, nat_tests)
 
-right : ℕ → ℕ → Bool
-right c x = both (eqb x (nibble c)) (ltb x 17)
+-- ---- two characters
 
-nibbles_right : T (every right 0 nibbles)
-unfolding right nibble choose
-nibbles_right = tt
+module _ (c d x : ℕ) (ex : x ≡ c) where
+  pub no_high : (digit_value x < 16 → ⊥) → (line : List ℕ) → bytes_of (c ∷ d ∷ line) ≡ none
+  unfolding bytes_of choose
+  no_high n line =
+      let h = rw ex at n in
+      let b : nibble c ≡ 16 = (digits_agree c).1 (omega (arith, h)) in
+      rw b
 
-module _ (c : ℕ) (h : c < 256) where
-  checked : T (eqb (get_or nibbles c 0) (nibble c)) × T (ltb (get_or nibbles c 0) 17)
-  unfolding right
-  checked = split (eqb (get_or nibbles c 0) (nibble c)) (ltb (get_or nibbles c 0) 17) (at right nibbles nibbles_right c h)
+  module _ (y : ℕ) (ey : y ≡ d) (good : digit_value x < 16) where
+    pub no_low : (digit_value y < 16 → ⊥) → (line : List ℕ) → bytes_of (c ∷ d ∷ line) ≡ none
+    unfolding bytes_of choose
+    no_low n line =
+        let g : digit_value c < 16 = rw ex at good in
+        let h = rw ey at n in
+        let b : nibble d ≡ 16 = (digits_agree d).1 (omega (arith, h)) in
+        rw (sym ((digits_agree c).0 g), b, lt-ltb (digit_value c) 16 g)
 
-  pub nibble_is : get_or nibbles c 0 ≡ nibble c
-  nibble_is = eqb→eq (get_or nibbles c 0) (nibble c) checked.0
+    pub a_byte : (high low : ℕ) → high ≡ digit_value x → digit_value y < 16 → low ≡ digit_value y
+        → (line : List ℕ) → bytes_of (c ∷ d ∷ line) ≡ before ((16 * high + low) ∷ []) (bytes_of line)
+    unfolding bytes_of choose
+    a_byte high low eh fine el line =
+        let g : digit_value c < 16 = rw ex at good in
+        let f : digit_value d < 16 = rw ey at fine in
+        rw (eh, el, ex, ey, sym ((digits_agree c).0 g), sym ((digits_agree d).0 f), lt-ltb (digit_value c) 16 g, lt-ltb (digit_value d) 16 f)
 
-  pub nibble_small : get_or nibbles c 0 < 17
-  nibble_small = ltb→lt (get_or nibbles c 0) 17 checked.1
-
-pub ruleset nibble_laws = (nibble_is, nibble_small, rules)
+pub ruleset byte_laws = (no_high, no_low, a_byte, rules)
 
 -- ---- the loop
 
@@ -58,46 +66,45 @@ nothing_before (some ys) = refl
 pub none_read : (line out : List ℕ) → bytes_of line ≡ before (take 0 out) (bytes_of (drop (2 * 0) line))
 none_read line out = rw (nothing_before (bytes_of line))
 
-module _ (line out : List ℕ) (i high low : ℕ) (in-line : i < length line / 2) where
+module _ (line out : List ℕ) (i : ℕ) (in-line : i < length line / 2) where
   pair : drop (2 * i) line ≡ get_or line (2 * i) 0 ∷ get_or line (2 * i + 1) 0 ∷ drop (2 * (i + 1)) line
   pair =
       let e : suc (2 * i) ≡ 2 * i + 1 = omega arith in
       let f : suc (2 * i + 1) ≡ 2 * (i + 1) = omega arith in
       drop-cons line (2 * i) 0 (omega arith) ∙ rw e (ap (λ l. get_or line (2 * i) 0 ∷ l) (drop-cons line (2 * i + 1) 0 (omega arith) ∙ rw f))
 
-  module _ (so_far : bytes_of line ≡ before (take i out) (bytes_of (drop (2 * i) line))) (h : high ≡ nibble (get_or line (2 * i) 0)) where
-    pub bad_high : 15 < high → bytes_of line ≡ none
-    unfolding bytes_of choose
-    bad_high b = so_far ∙ rw (pair, sym h, le-ltb high 16 b)
+  module _ (so_far : bytes_of line ≡ before (take i out) (bytes_of (drop (2 * i) line))) where
+    pub no_byte : ((rest : List ℕ) → bytes_of (get_or line (2 * i) 0 ∷ get_or line (2 * i + 1) 0 ∷ rest) ≡ none) → bytes_of line ≡ none
+    no_byte n = so_far ∙ rw (pair, n (drop (2 * (i + 1)) line))
 
-    module _ (l : low ≡ nibble (get_or line (2 * i + 1) 0)) (good : high ≤ 15) where
-      pub bad_low : 15 < low → bytes_of line ≡ none
-      unfolding bytes_of choose
-      bad_low b = so_far ∙ rw (pair, sym h, sym l, lt-ltb high 16 (omega arith), le-ltb low 16 b)
+    pub one_byte_more : (b : ℕ) → ((rest : List ℕ) → bytes_of (get_or line (2 * i) 0 ∷ get_or line (2 * i + 1) 0 ∷ rest) ≡ before (b ∷ []) (bytes_of rest)) → (out₀ : List ℕ)
+        → length line ≤ 2 * length out₀ → length out ≡ length out₀ → bytes_of line ≡ before (take (i + 1) (set out i b)) (bytes_of (drop (2 * (i + 1)) line))
+    one_byte_more b n out₀ room same =
+        let o : i < length out = omega arith in
+        let e : i + 1 ≡ suc i = omega arith in
+        so_far ∙ rw (pair, n (drop (2 * (i + 1)) line)) (before_before (take i out) b (bytes_of (drop (2 * (i + 1)) line)) ∙ rw (e, take-suc-set out i b o))
 
-      pub one_byte_more : low ≤ 15 → (out₀ : List ℕ) → length line ≤ 2 * length out₀ → length out ≡ length out₀ → bytes_of line ≡ before (take (i + 1) (set out i (16 * high + low))) (bytes_of (drop (2 * (i + 1)) line))
-      unfolding bytes_of choose
-      one_byte_more b out₀ room same =
-          let o : i < length out = omega arith in
-          let e : i + 1 ≡ suc i = omega arith in
-          so_far ∙ rw (pair, sym h, sym l, lt-ltb high 16 (omega arith), lt-ltb low 16 (omega arith))
-          (before_before (take i out) (16 * high + low) (bytes_of (drop (2 * (i + 1)) line)) ∙ rw (e, take-suc-set out i (16 * high + low) o))
-
-module _ (line out : List ℕ) (i : ℕ) (in-line : i ≤ length line / 2) (end : length line / 2 ≤ i) (so_far : bytes_of line ≡ before (take i out) (bytes_of (drop (2 * i) line))) where
+module _ (line out : List ℕ) (so_far : bytes_of line ≡ before (take (length line / 2) out) (bytes_of (drop (2 * (length line / 2)) line))) where
   pub even : length line % 2 ≡ 0 → bytes_of line ≡ some (take (length line / 2) out)
   unfolding bytes_of
   even z =
-      let e : length line / 2 ≡ i = omega arith in
-      let l : length line ≤ 2 * i = omega arith in
-      let d : drop (2 * i) line ≡ [] = drop_of_length-le line l in
-      so_far ∙ rw (d, e) (ap some (append-nil (take i out)))
+      let l : length line ≤ 2 * (length line / 2) = omega arith in
+      let d : drop (2 * (length line / 2)) line ≡ [] = drop_of_length-le line l in
+      so_far ∙ rw d (ap some (append-nil (take (length line / 2) out)))
 
   pub odd : (length line % 2 ≡ 0 → ⊥) → bytes_of line ≡ none
   unfolding bytes_of
   odd z =
       let n : length line % 2 ≡ 1 = omega arith in
-      let l : length line ≤ suc (2 * i) = omega arith in
-      let d : drop (suc (2 * i)) line ≡ [] = drop_of_length-le line l in
-      so_far ∙ rw (drop-cons line (2 * i) 0 (omega arith), d)
+      let l : length line ≤ suc (2 * (length line / 2)) = omega arith in
+      let d : drop (suc (2 * (length line / 2))) line ≡ [] = drop_of_length-le line l in
+      so_far ∙ rw (drop-cons line (2 * (length line / 2)) 0 (omega arith), d)
 
-pub ruleset decode_laws = (none_read, bad_high, bad_low, one_byte_more, even, odd, rules)
+  pub read : Decoded line out (eqb (length line % 2) 0)
+  read = go (eqb (length line % 2) 0) refl
+    where
+      go : (b : Bool) → eqb (length line % 2) 0 ≡ b → Decoded line out b
+      go true e = even (eqb-true (length line % 2) 0 e)
+      go false e = odd (eqb-false (length line % 2) 0 e)
+
+pub ruleset decode_laws = (none_read, no_byte, one_byte_more, read, rules)

@@ -1,21 +1,21 @@
 -- Writing texts one after the other, and decimal digits.
-use mathlib.Core.Path.{◌≡◌, refl, sym, ◌∙◌, ap}
-use mathlib.Core.Bool.{Bool, true, false}
+use mathlib.Core.Path.{◌≡◌, refl, sym, ◌∙◌}
 use mathlib.Core.List.{List, [], ◌∷◌, ◌++◌}
-use Prim.Native.Nat.{ℕ, zero, suc, ◌+◌, ◌*◌, ◌/◌, ◌%◌, ◌^◌, ◌<◌, ◌≤◌}
-use native.Mathlib.Nat.{add-zero, pow-succ'}
+use Prim.Native.Nat.{ℕ, suc, ◌+◌, ◌^◌, ◌<◌, ◌≤◌}
+use native.Mathlib.Nat.{add-zero}
 use native.Mathlib.Omega.{arith}
 use borrow.Author.Rules.{rules}
 use borrow.Author.Tests.{lt-ltb, le-ltb}
-use lib.Dec.{ltb}
-use lib.ListN.{length, get_or, take, set, length-append}
+use lib.ListN.{length, take, drop, set, length-append}
 use mir.Syntax.{w64}
 use mir.Val.{Fits}
-use lib.Seq.{sets, length-sets, take-suc, take-length, length-take-le}
+use lib.Seq.{sets, sets-eq}
+use Rattle.std.specs.Fmt as Fmt
+use Rattle.std.proofs.lemmas.Fmt.{AppendsLastDigit, decimal_from_appends, length-decimal-le}
 use Rattle.json_model.specs.Choose.{choose}
 use Rattle.json_model.specs.Reading.{told}
 use Rattle.json_model.specs.declared.Refusal.{Refusal}
-use Rattle.json_model.specs.declared.Verdict.{Verdict}
+use Rattle.std.specs.Prelude.{Result, Ok, Err}
 use Rattle.frame_rules.specs.Frame as Frame
 use Rattle.frame_rules.specs.Texts.{ascii, digits, decimal, verdict_text, said, answer_text, total_text}
 use Rattle.frame.specs.Told.{told_answer}
@@ -36,100 +36,38 @@ joined o₀ o₁ o₂ at p q a b (w, e) (v, f) =
     let l = length-append a b in
     (v ∙ rw (w, e) (sym (sets_append o₀ at a b)), omega arith)
 
-pub length_kept : (o₀ o₁ a : List ℕ) (at p : ℕ) → Written o₀ at a o₁ p → length o₁ ≡ length o₀
+-- a text as a whole
+pub text_written : (o text : List ℕ) (at : ℕ) → at + length text ≤ length o → Written o at text (take at o ++ text ++ drop (at + length text) o) (at + length text)
 unfolding Written
-length_kept o₀ o₁ a at p (w, e) = rw w (length-sets o₀ at a)
+text_written o text at h = (sym (sets-eq text o at h), refl)
 
--- a text byte by byte
-module _ (o₀ o text : List ℕ) (at i : ℕ) (w : o ≡ sets o₀ at (take i text)) where
-  pub one_more : i < length text → set o (at + i) (get_or text i 0) ≡ sets o₀ at (take (i + 1) text)
-  one_more h =
-      let e : i + 1 ≡ suc i = omega arith in
-      let l : length (take i text) ≡ i = length-take-le i text (omega arith) in
-      rw (w, e, take-suc text i 0 h, sets_append o₀ at (take i text) (get_or text i 0 ∷ []), l)
-
-  pub all_written : i ≤ length text → length text ≤ i → Written o₀ at text o (at + i)
-  unfolding Written
-  all_written m n = let e : i ≡ length text = omega arith in (w ∙ rw (e, take-length text), rw e)
-
-pub nothing_written : (o text : List ℕ) (at : ℕ) → o ≡ sets o at (take 0 text)
-nothing_written o text at = refl
-
-pub ruleset put_laws = (nothing_written, one_more, all_written, rules)
+pub ruleset put_laws = (text_written, rules)
 
 -- ---- decimal digits
 
--- one digit more of room changes nothing
-digits_more : (k n : ℕ) → n < 10 ^ suc k → digits (suc (suc k)) n ≡ digits (suc k) n
+digits_append : AppendsLastDigit digits
 unfolding digits choose
-digits_more zero n h = rw (lt-ltb n 10 h)
-digits_more (suc k) n h =
-    let p : 10 ^ suc (suc k) ≡ 10 * 10 ^ suc k = pow-succ' 10 (suc k) in
-    rw (digits_more k (n / 10) (omega arith))
+digits_append = record { one = λ k n h. rw (lt-ltb n 10 h); more = λ k n h. rw (le-ltb n 10 h) }
 
-pub one_digit : (n : ℕ) → n < 10 → decimal n ≡ (0x30 + n) ∷ []
-unfolding decimal digits choose
-one_digit n h = rw (lt-ltb n 10 h)
-
-last_digit : (k n : ℕ) → 10 ≤ n → digits (suc k) n ≡ digits k (n / 10) ++ ((0x30 + n % 10) ∷ [])
-unfolding digits choose
-last_digit k n h = rw (le-ltb n 10 h)
-
-pub more_digits : (n : ℕ) → n < 2 ^ 64 → 10 ≤ n → decimal n ≡ decimal (n / 10) ++ ((0x30 + n % 10) ∷ [])
+-- std's digits are the bench's
+decimals_agree : (n : ℕ) → n < 2 ^ 64 → decimal n ≡ Fmt.decimal n
 unfolding decimal
-more_digits n f h = last_digit 19 n h ∙ rw (digits_more 18 (n / 10) (omega arith))
+decimals_agree n h = decimal_from_appends digits digits_append 20 n h (length-decimal-le 20 n (omega arith) (omega arith) h)
 
-few : {m : ℕ} (b : Bool) (x y : List ℕ) → length x ≤ m → length y ≤ m → length (choose b x y) ≤ m
-unfolding choose
-few true x y h i = h
-few false x y h i = i
+pub decimal_written : (o after t : List ℕ) (at end n : ℕ) → Fits w64 n → t ≡ Fmt.decimal n → Written o at t after end → Written o at (decimal n) after end
+decimal_written o after t at end n h e w = rw (decimals_agree n h.fits, sym e) w
 
-digits_few : (k n : ℕ) → length (digits k n) ≤ k
-unfolding digits
-digits_few zero n = omega arith
-digits_few (suc k) n =
-    let h = digits_few k (n / 10) in
-    let l = length-append (digits k (n / 10)) ((0x30 + n % 10) ∷ []) in
-    few (ltb n 10) _ _ (omega arith) (omega arith)
-
-pub decimal_few : (n : ℕ) → length (decimal n) ≤ 20
-unfolding decimal
-decimal_few n = digits_few 20 n
-
-pub first_digit : (o : List ℕ) (at n : ℕ) → n < 10 → Written o at (decimal n) (set o at (48 + n)) (at + 1)
-unfolding Written
-first_digit o at n h = rw (one_digit n h) (refl, refl)
-
-module _ (o₀ : List ℕ) (at n : ℕ) (f : n < 2 ^ 64) (h : 10 ≤ n) where
-  longer : length (decimal n) ≡ length (decimal (n / 10)) + 1
-  longer = ap length (more_digits n f h) ∙ length-append (decimal (n / 10)) ((0x30 + n % 10) ∷ [])
-
-  module _ (o₁ : List ℕ) (p : ℕ) (w : Written o₀ at (decimal (n / 10)) o₁ p) where
-    pub last_within : p + 1 ≤ at + 20
-    unfolding Written
-    last_within = let e = w.1 in let d = decimal_few n in omega (arith, longer)
-
-    pub room_for_last : at + 20 ≤ length o₀ → p < length o₁
-    room_for_last r = let l = length_kept o₀ o₁ (decimal (n / 10)) at p w in omega (arith, last_within)
-
-    pub last_fits : at + 20 ≤ length o₀ → length o₀ < 2 ^ 64 → Fits w64 (p + 1)
-    last_fits r l = let h = last_within in record { fits = omega arith }
-
-    pub last_digit_written : Written o₀ at (decimal n) (set o₁ p (48 + n % 10)) (p + 1)
-    unfolding Written
-    last_digit_written = rw (more_digits n f h) (joined o₀ o₁ (set o₁ p (48 + n % 10)) at p (p + 1) (decimal (n / 10)) ((0x30 + n % 10) ∷ []) w (refl, refl))
-
-pub ruleset decimal_laws = (first_digit, room_for_last, last_fits, last_within, last_digit_written, rules)
+pub ruleset decimal_laws = (decimal_written, rules)
 
 -- ---- lines
 
 module _ (o₀ o₁ : List ℕ) (at p : ℕ) where
-  module _ (v : Verdict) where
-    pub accepted_text : v ≡ Verdict.Accepted → Written o₀ at (ascii " ok\n") o₁ p → Written o₀ at (verdict_text (told v)) o₁ p
+  module _ (v : Result (Unit {0}) Refusal) where
+    pub accepted_text : v ≡ Ok tt → Written o₀ at (ascii " ok\n") o₁ p → Written o₀ at (verdict_text (told v)) o₁ p
     unfolding verdict_text
     accepted_text e w = rw e w
 
-    pub refused_text : (r : Refusal) (o₂ o₃ : List ℕ) (q end : ℕ) → v ≡ Verdict.Refused r
+    pub refused_text : (r : Refusal) (o₂ o₃ : List ℕ) (q end : ℕ) → v ≡ Err r
         → Written o₀ at (ascii " no " ++ decimal r.number) o₁ p → Written o₁ p (ascii " " ++ decimal r.place) o₂ q → Written o₂ q (ascii "\n") o₃ end
         → Written o₀ at (verdict_text (told v)) o₃ end
     unfolding verdict_text
@@ -144,7 +82,7 @@ module _ (o₀ o₁ : List ℕ) (at p : ℕ) where
     unfolding said
     hex_text e w = rw e w
 
-    module _ (v : Verdict) (o₂ : List ℕ) (q : ℕ) (x : Written o₁ p (verdict_text (told v)) o₂ q) where
+    module _ (v : Result (Unit {0}) Refusal) (o₂ : List ℕ) (q : ℕ) (x : Written o₁ p (verdict_text (told v)) o₂ q) where
       pub binary_text : a ≡ Answer.Binary v → Written o₀ at (ascii " B") o₁ p → Written o₀ at (said (told_answer a)) o₂ q
       unfolding said
       binary_text e w = rw e (joined o₀ o₁ o₂ at p q _ _ w x)

@@ -32,16 +32,11 @@ pub enum Answer {
 }
 
 // Whether a frame starts as Fractured JSON does.
+#[tactic(auto, using(crate::proofs::Frames::format_laws))]
 fn is_fractured(doc: &[u8]) -> bool
     ensures { result ≡ is_fractured doc.now }
 {
-    if doc.len() < 2 {
-        return false;
-    }
-    if doc[0] == 0x46 {
-        return doc[1] == 0x4A;
-    }
-    false
+    doc.starts_with(b"FJ")
 }
 
 // Room for the keys of a frame.
@@ -51,9 +46,11 @@ fn key_table() -> [u32; WORDS]
     [0; WORDS]
 }
 
+#[tactic(auto, using(crate::proofs::Frames::frame_laws))]
 fn check_fractured(doc: &[u8]) -> Verdict
     ensures { told result ≡ verdict_of (verdict bench_keys doc.now no_names) }
 {
+    // A key list without a name; also in `rulings` and `limits`: a constant of a reader's crate would be no plainer.
     let names = [0u8; 3];
     let mut keys = key_table();
     let c = fractured_json_check::check(doc, &names, &mut keys);
@@ -67,6 +64,7 @@ fn marks() -> [u8; BENCH_MARKS]
     [0; BENCH_MARKS]
 }
 
+#[tactic(auto, using(crate::proofs::Frames::frame_laws))]
 fn check_binary(doc: &[u8]) -> Verdict
     ensures { told result ≡ verdict_of (binaryVerdict doc.now (replicate bench_marks 0)) }
 {
@@ -74,6 +72,7 @@ fn check_binary(doc: &[u8]) -> Verdict
     binary_json_check::check(doc, &mut lent)
 }
 
+#[tactic(auto, using(crate::proofs::Frames::frame_laws))]
 fn check_frame(doc: &[u8]) -> Answer
     ensures { told_answer result ≡ frame_of doc.now }
 {
@@ -84,6 +83,7 @@ fn check_frame(doc: &[u8]) -> Answer
 }
 
 // The answer of a line, without its LF.
+#[tactic(auto, using(crate::proofs::Frames::frame_laws))]
 pub fn answer_to(line: &[u8]) -> Answer
     ensures { told_answer result ≡ answer_of line.now }
 {

@@ -1,149 +1,142 @@
-// The lines of the input: a line that lies within one block is answered where it stands, any other is held until it ends.
-ghost use Rattle.std.specs.Prelude.{◌≤◌, ◌<◌, length, IfOk};
+// The lines of the input: a line that lies within one block is answered where it stands, any other is held until it
+// ends.
+ghost use Rattle.std.specs.Prelude.{◌≡◌, ◌++◌, IfOk, position, take};
+ghost use Rattle.frames.specs.Line.{after_line, is_line_end};
 
-use crate::output::{Output, copy};
+use crate::output::Output;
+use arrayvec::ArrayVec;
 use frame::Answer;
-use json_model::Verdict;
+use json_model::limits::LONGEST_LINE;
 use std::io;
 use std::io::Write;
 
-// How many characters of the last line are held, how many frames there were and how many of them were accepted, and the
-// output.
-#[derive(Drop)]
-pub(crate) struct Run {
-    pub held: usize,
-    pub frames: u64,
-    pub ok: u64,
-    pub output: Output,
-}
+// How many characters of a line are held: one more than the longest has, which is enough to tell that it is too long.
+const HELD: usize = LONGEST_LINE + 1;
 
-fn is_accepted(v: &Verdict) -> bool {
-    match v {
-        Verdict::Accepted => true,
-        Verdict::Refused(_) => false,
-    }
+// How many frames there were and how many of them were accepted, and the output.
+#[derive(Drop)]
+struct Answers<W: Write> {
+    frames: u64,
+    ok: u64,
+    output: Output<W>,
 }
 
 fn is_ok(a: &Answer) -> bool {
-    match a {
-        Answer::Long => false,
-        Answer::Hex => false,
-        Answer::Binary(v) => is_accepted(v),
-        Answer::Fractured(v) => is_accepted(v),
+    matches!(a, Answer::Binary(Ok(())) | Answer::Fractured(Ok(())))
+}
+
+impl<W: Write> Answers<W> {
+    // The answer of a line, counted and said.
+    fn say(&mut self, line: &[u8]) -> io::Result<()> {
+        let a = frame::answer_to(line);
+        self.frames = self.frames.saturating_add(1);
+        if is_ok(&a) {
+            self.ok = self.ok.saturating_add(1);
+        }
+        let mut text = [0u8; 80];
+        let n = frame::text(self.frames, a, &mut text);
+        self.output.say(&text[..n])
+    }
+
+    // The total, and all that waits.
+    fn say_total(&mut self) -> io::Result<()> {
+        let mut text = [0u8; 80];
+        let n = frame::total(self.frames, self.ok, &mut text);
+        self.output.say(&text[..n])?;
+        self.output.flush()
     }
 }
 
-fn one_more(n: u64, counts: bool) -> u64 {
-    if counts {
-        if n < u64::MAX {
-            return n + 1;
+// Where the first LF of a block stands, if there is one.
+fn line_end(block: &[u8]) -> Option<usize>
+    ensures { result ≡ position is_line_end block.now }
+{
+    block.iter().position(|c| *c == b'\n')
+}
+
+// The line that has not ended, and the answers to those before it.
+#[derive(Drop)]
+pub(crate) struct Lines<W: Write> {
+    held: ArrayVec<u8, HELD>,
+    answers: Answers<W>,
+}
+
+impl<W: Write> Lines<W> {
+    pub(crate) fn new(to: W) -> Lines<W> {
+        Lines {
+            held: ArrayVec::new(),
+            answers: Answers {
+                frames: 0,
+                ok: 0,
+                output: Output::new(to),
+            },
         }
     }
-    n
-}
 
-// The answer of a line, counted and written.
-fn answer_line<W: Write>(to: &mut W, run: &mut Run, line: &[u8]) -> io::Result<()> {
-    let a = frame::answer_to(line);
-    run.held = 0;
-    run.frames = one_more(run.frames, true);
-    run.ok = one_more(run.ok, is_ok(&a));
-    let mut text = [0u8; 80];
-    let n = frame::text(run.frames, a, &mut text);
-    run.output.say(to, &text[..n])
-}
+    // What the output starts with.
+    pub(crate) fn start(&mut self) -> io::Result<()> {
+        self.answers.output.say(b"frames\n")
+    }
 
-// The place of the next LF, or the end of the block.
-fn line_end(block: &[u8], start: usize) -> usize
-    requires { start ≤ length block.now }
-    ensures { (start ≤ result) × (result ≤ length block.now) }
-{
-    let mut i = start;
-    while i < block.len() {
-        if block[i] == b'\n' {
-            return i;
+    // Holds as much of a part of a line as there is room for.
+    fn hold(&mut self, part: &[u8])
+        ensures { self.new.held.items ≡ take HELD (self.old.held.items ++ part.now) }
+    {
+        let n = self.held.remaining_capacity().min(part.len());
+        self.held.try_extend_from_slice(&part[..n]).unwrap();
+    }
+
+    // The end of the line that is held.
+    fn end_held(&mut self) -> io::Result<()> {
+        let said = self.answers.say(&self.held);
+        self.held.clear();
+        said
+    }
+
+    // The last part of a line.
+    fn end_line(&mut self, part: &[u8]) -> io::Result<()> {
+        if self.held.is_empty() {
+            return self.answers.say(part);
         }
-        i += 1;
+        self.hold(part);
+        self.end_held()
     }
-    i
-}
 
-// Holds more characters of a line, as many as there is room for: one more than the longest line has.
-fn hold(line: &mut [u8], held: usize, part: &[u8]) -> usize {
-    if line.len() <= held {
-        return held;
+    // Takes the first line of a block, or the part of it that the block has, and answers what follows.
+    fn take_line<'b>(&mut self, block: &'b [u8]) -> io::Result<&'b [u8]>
+        ensures { IfOk result (λ rest. rest.now ≡ after_line block.now) }
+    {
+        match line_end(block) {
+            Some(end) => {
+                self.end_line(&block[..end])?;
+                Ok(&block[end + 1..])
+            }
+            None => {
+                self.hold(block);
+                Ok(&[])
+            }
+        }
     }
-    let room = line.len() - held;
-    if part.len() <= room {
-        copy(line, held, part, part.len());
-        return held + part.len();
-    }
-    copy(line, held, part, room);
-    held + room
-}
 
-// The last part of a line.
-fn end_line<W: Write>(to: &mut W, line: &mut [u8], run: &mut Run, part: &[u8]) -> io::Result<()> {
-    if run.held == 0 {
-        return answer_line(to, run, part);
+    // Takes all lines of a block: each turn takes one, and no index counts them.
+    pub(crate) fn take_block(&mut self, block: &[u8]) -> io::Result<()> {
+        let mut rest = block;
+        while !rest.is_empty() {
+            rest = self.take_line(rest)?;
+        }
+        Ok(())
     }
-    let end = hold(line, run.held, part);
-    answer_held(to, line, run, end)
-}
 
-fn answer_held<W: Write>(to: &mut W, line: &[u8], run: &mut Run, end: usize) -> io::Result<()> {
-    if end <= line.len() {
-        return answer_line(to, run, &line[..end]);
+    // Writes the answers that wait.
+    pub(crate) fn flush(&mut self) -> io::Result<()> {
+        self.answers.output.flush()
     }
-    Ok(())
-}
 
-// Takes the next line of a block, or the part of it that the block has, and answers how far into the block it came.
-fn take_line<W: Write>(
-    to: &mut W,
-    line: &mut [u8],
-    run: &mut Run,
-    block: &[u8],
-    start: usize,
-) -> io::Result<usize>
-    requires { start < length block.now }
-    ensures { IfOk result (λ at. (start < at) × (at ≤ length block.now)) }
-{
-    let end = line_end(block, start);
-    if end < block.len() {
-        end_line(to, line, run, &block[start..end])?;
-        return Ok(end + 1);
+    // The end of the input: a line that is held counts, then comes the total.
+    pub(crate) fn finish(&mut self) -> io::Result<()> {
+        if !self.held.is_empty() {
+            self.end_held()?;
+        }
+        self.answers.say_total()
     }
-    run.held = hold(line, run.held, &block[start..]);
-    Ok(block.len())
-}
-
-// Takes all lines of a block.
-pub(crate) fn take_block<W: Write>(
-    to: &mut W,
-    line: &mut [u8],
-    run: &mut Run,
-    block: &[u8],
-) -> io::Result<()> {
-    let mut at = 0;
-    while at < block.len() {
-        at = take_line(to, line, run, block, at)?;
-    }
-    Ok(())
-}
-
-// The total, and all that waits.
-fn say_total<W: Write>(to: &mut W, run: &mut Run) -> io::Result<()> {
-    let mut text = [0u8; 80];
-    let n = frame::total(run.frames, run.ok, &mut text);
-    run.output.say(to, &text[..n])?;
-    run.output.flush(to)
-}
-
-// The end of the input: a line that is held counts, then comes the total.
-pub(crate) fn finish<W: Write>(to: &mut W, line: &[u8], run: &mut Run) -> io::Result<()> {
-    if 0 < run.held {
-        answer_held(to, line, run, run.held)?;
-    }
-    say_total(to, run)
 }

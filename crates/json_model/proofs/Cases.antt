@@ -4,18 +4,18 @@ use mathlib.Core.Logic.{◌↔◌}
 use mathlib.Core.Path.{◌≡◌, refl, sym, ap, ◌∙◌}
 use Rattle.json_model.specs.Reading.{halt, done, Asked, told}
 use Rattle.json_model.specs.declared.Refusal.{Refusal}
-use Rattle.json_model.specs.declared.Verdict.{Verdict}
+use Rattle.std.specs.Prelude.{Result, Ok, Err}
 
 abbrev pub refusal : ℕ → ℕ → Refusal
 refusal n p = record { number = n; place = p }
 
-abbrev pub verdict_is : Asked (Unit {0}) → Verdict
-verdict_is (halt n p u) = Verdict.Refused (refusal n p)
-verdict_is (done a u) = Verdict.Accepted
+abbrev pub verdict_is : Asked (Unit {0}) → Result (Unit {0}) Refusal
+verdict_is (halt n p u) = Err (refusal n p)
+verdict_is (done a u) = Ok a
 
-pub verdict_is_lem : (r : Verdict) → verdict_is (told r) ≡ r
-verdict_is_lem Verdict.Accepted = refl
-verdict_is_lem (Verdict.Refused r) = refl
+pub verdict_is_lem : (r : Result (Unit {0}) Refusal) → verdict_is (told r) ≡ r
+verdict_is_lem (Ok tt) = refl
+verdict_is_lem (Err r) = refl
 
 -- An answer r whose contract is `says r ≡ q` is the case a exactly if the rule q says what a says. For a refusal a: the code
 -- refuses with a number and place exactly if the rule does.

@@ -16,8 +16,8 @@ use Rattle.json_model.specs.Tree.{Tree, null, bool, num, str, arr, obj, Trees, n
 use Rattle.json_model.specs.Tree.{IsContainer, NoContainer, NoNumber, NoString, NoArray, NoObject, Subtree, whole}
 use Rattle.json_model.specs.Tree as Tree
 use Rattle.json_model.specs.Node.{s_null, s_bool, s_num, s_str, Node, leaf, list, dict, Nodes, nil, cons, Fields, last, field, place, bare, NodeIs, FieldIs, Within, itself, element, value}
-use Rattle.json_model.specs.declared.Order.TheVariants.{Below, Equal, Above}
-use Rattle.json_model.specs.declared.Verdict.{Verdict}
+use Rattle.std.specs.declared.cmp.Ordering.TheVariants.{Less, Equal, Greater}
+use Rattle.std.specs.Prelude.{Ok, Err}
 
 -- ---- bytes
 
@@ -81,26 +81,26 @@ pub said_and_kept :
 said_and_kept = (refl, refl, refl, refl)
 
 -- both cases of the code's verdict
-pub verdicts_say : (told Verdict.Accepted ≡ done tt tt) × (told (Verdict.Refused (record { place = 16; number = 5 })) ≡ halt 5 16 tt)
+pub verdicts_say : (told (Ok tt) ≡ done tt tt) × (told (Err (record { place = 16; number = 5 })) ≡ halt 5 16 tt)
 verdicts_say = (refl, refl)
 
 -- ---- texts
 
 pub numbers_compare :
-    (map (compare_numbers 5) (4 ∷ 5 ∷ 6 ∷ []) ≡ Above ∷ Equal ∷ Below ∷ []) × (by_numbers 5 4 Below ≡ Above) × (by_numbers 5 5 Below ≡ Below) × (by_numbers 5 5 Above ≡ Above)
-    × (by_numbers 5 6 Above ≡ Below)
+    (map (compare_numbers 5) (4 ∷ 5 ∷ 6 ∷ []) ≡ Greater ∷ Equal ∷ Less ∷ []) × (by_numbers 5 4 Less ≡ Greater) × (by_numbers 5 5 Less ≡ Less) × (by_numbers 5 5 Greater ≡ Greater)
+    × (by_numbers 5 6 Greater ≡ Less)
 unfolding by_numbers choose
 numbers_compare = (refl, refl, refl, refl, refl)
 
 -- as unsigned bytes, the first that differs decides, a prefix before the longer, zeros inside are bytes
 pub texts_compare :
-    (compare_texts (hex 1 0x80) (hex 1 0x7F) ≡ Above) × (compare_texts (hex 1 0x7F) (hex 1 0x80) ≡ Below) × (compare_texts (hex 1 0x61) (hex 2 0x6100) ≡ Below)
-    × (compare_texts (hex 2 0x6100) (hex 1 0x61) ≡ Above) × (compare_texts (hex 3 0x610062) (hex 3 0x610061) ≡ Above) × (compare_texts (hex 2 0x6100) (hex 2 0x6100) ≡ Equal)
-    × (compare_texts (hex 2 0x6163) (hex 2 0x6261) ≡ Below) × (compare_texts (hex 2 0x6261) (hex 3 0x616263) ≡ Above) × (compare_texts [] [] ≡ Equal) × (compare_texts [] (hex 1 0x00) ≡ Below)
+    (compare_texts (hex 1 0x80) (hex 1 0x7F) ≡ Greater) × (compare_texts (hex 1 0x7F) (hex 1 0x80) ≡ Less) × (compare_texts (hex 1 0x61) (hex 2 0x6100) ≡ Less)
+    × (compare_texts (hex 2 0x6100) (hex 1 0x61) ≡ Greater) × (compare_texts (hex 3 0x610062) (hex 3 0x610061) ≡ Greater) × (compare_texts (hex 2 0x6100) (hex 2 0x6100) ≡ Equal)
+    × (compare_texts (hex 2 0x6163) (hex 2 0x6261) ≡ Less) × (compare_texts (hex 2 0x6261) (hex 3 0x616263) ≡ Greater) × (compare_texts [] [] ≡ Equal) × (compare_texts [] (hex 1 0x00) ≡ Less)
 unfolding compare_texts by_numbers choose
 texts_compare = (refl, refl, refl, refl, refl, refl, refl, refl, refl, refl)
 
-pub orders_are : (map is_below (Below ∷ Equal ∷ Above ∷ []) ≡ true ∷ false ∷ false ∷ []) × (map is_equal (Below ∷ Equal ∷ Above ∷ []) ≡ false ∷ true ∷ false ∷ [])
+pub orders_are : (map is_below (Less ∷ Equal ∷ Greater ∷ []) ≡ true ∷ false ∷ false ∷ []) × (map is_equal (Less ∷ Equal ∷ Greater ∷ []) ≡ false ∷ true ∷ false ∷ [])
 orders_are = (refl, refl)
 
 -- ---- numbers

@@ -1,8 +1,7 @@
 -- Reading that may be refused: docs/format/REFUSALS.md, section 1. A rule is one line `need TEST NUMBER PLACE`: where
 -- the test fails, reading stops there with that number and place, so the first failed rule wins.
-use Rattle.std.specs.Prelude.{ℕ, Bool, true, false}
-use Rattle.json_model.specs.declared.Verdict.{Verdict}
-use Rattle.json_model.specs.declared.Verdict.TheVariants.{Accepted, Refused}
+use Rattle.std.specs.Prelude.{ℕ, Bool, true, false, Result, Ok, Err}
+use Rattle.json_model.specs.declared.Refusal.{Refusal}
 
 -- How a reading ends: stopped by a refusal with its number and place, or done with an answer. S is what a reading keeps
 -- on its way (the lent marks for BinaryJson, the keys passed for Fractured JSON, nothing for the questions), and it is
@@ -69,8 +68,12 @@ abbrev pub verdict_of : {S A : Type 0} → Outcome S A → Asked A
 verdict_of (halt number place s) = refuses number place
 verdict_of (done a s) = answers a
 
--- ---- the verdict of the code, with its number and place
+-- ---- what the code answers: a refusal has its number and place, and `says` gives an answer its values
 
-abbrev pub told : Verdict → Asked (Unit {0})
-told Accepted = answers tt
-told (Refused r) = refuses r.number r.place
+abbrev pub told_by : {T A : Type 0} → (T → A) → Result T Refusal → Asked A
+told_by says (Ok a) = answers (says a)
+told_by says (Err r) = refuses r.number r.place
+
+-- the verdict of a check
+abbrev pub told : Result (Unit {0}) Refusal → Asked (Unit {0})
+told = told_by (λ _. tt)

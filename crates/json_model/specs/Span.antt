@@ -2,11 +2,8 @@
 -- is answered as numbers; a second question returns the text as a part of the document itself, empty at a refusal.
 use Rattle.std.specs.Prelude.{ℕ, List, []}
 use Rattle.json_model.specs.Bytes.{part}
+use Rattle.json_model.specs.declared.Span.{Span}
 use Rattle.json_model.specs.Reading.{halt, done, Asked}
-
-pub record Span : Type 0 where
-  pub place : ℕ
-  pub len : ℕ
 
 abbrev pub spanned : List ℕ → Asked Span → List ℕ
 spanned doc (halt number place u) = []

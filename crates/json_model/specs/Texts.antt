@@ -2,28 +2,28 @@
 -- byte like any other.
 use Rattle.std.specs.Prelude.{ℕ, Bool, true, false, List, [], ◌∷◌, ltb}
 use Rattle.json_model.specs.Choose.{choose}
-use Rattle.json_model.specs.declared.Order.{Order}
-use Rattle.json_model.specs.declared.Order.TheVariants.{Below, Equal, Above}
+use Rattle.std.specs.declared.cmp.Ordering.{Ordering}
+use Rattle.std.specs.declared.cmp.Ordering.TheVariants.{Less, Equal, Greater}
 
 -- two numbers, and what decides where they are equal
-unfoldable pub by_numbers : ℕ → ℕ → Order → Order
-by_numbers x y equal = choose (ltb x y) Below (choose (ltb y x) Above equal)
+unfoldable pub by_numbers : ℕ → ℕ → Ordering → Ordering
+by_numbers x y equal = choose (ltb x y) Less (choose (ltb y x) Greater equal)
 
-abbrev pub compare_numbers : ℕ → ℕ → Order
+abbrev pub compare_numbers : ℕ → ℕ → Ordering
 compare_numbers x y = by_numbers x y Equal
 
-unfoldable pub compare_texts : List ℕ → List ℕ → Order
+unfoldable pub compare_texts : List ℕ → List ℕ → Ordering
 compare_texts [] [] = Equal
-compare_texts [] (y ∷ ys) = Below
-compare_texts (x ∷ xs) [] = Above
+compare_texts [] (y ∷ ys) = Less
+compare_texts (x ∷ xs) [] = Greater
 compare_texts (x ∷ xs) (y ∷ ys) = by_numbers x y (compare_texts xs ys)
 
-abbrev pub is_below : Order → Bool
-is_below Below = true
+abbrev pub is_below : Ordering → Bool
+is_below Less = true
 is_below Equal = false
-is_below Above = false
+is_below Greater = false
 
-abbrev pub is_equal : Order → Bool
-is_equal Below = false
+abbrev pub is_equal : Ordering → Bool
+is_equal Less = false
 is_equal Equal = true
-is_equal Above = false
+is_equal Greater = false

@@ -1,44 +1,35 @@
 // BinaryJson: the deepest document and one level more, with marks enough.
-use crate::documents::put_four;
-use crate::say::verdict;
+use crate::say::Said;
+use std::alloc::{AllocError, Global};
 use std::io;
 
-fn check(rt: &impl Print, case: &str, doc: &[u8]) -> io::Result<()> {
-    let mut marks = [0u8; 256];
-    print!(rt; "{case}")?;
-    verdict(rt, binary_json::check(doc, &mut marks))?;
-    println!(rt)
+fn put(doc: &mut Vec<u8>, word: u32) -> Result<(), AllocError> {
+    doc.extend_from_slice(&word.to_le_bytes())
 }
 
-// The array at level i: its Meta, and its Entry, which names the next.
-fn put_level(doc: &mut [u8], i: u8) {
-    put_four(doc, 8 * (i as u16) + 4, 0x20);
-    put_four(doc, 8 * (i as u16) + 8, 32 * (8 * (i as u32) + 12) + 5);
-}
-
-// Arrays in each other at the levels 0 to `last`: the last is empty, and the string index follows it.
-fn put_levels(doc: &mut [u8], last: u8) {
-    put_four(doc, 0, 32 * (8 * (last as u32) + 8) + 1);
-    let mut i: u8 = 0;
-    while i < last {
-        put_level(doc, i);
-        i += 1;
+// Arrays in each other: each has its Meta and its Entry, which names the next, but the last is empty. The string index
+// follows it.
+fn nested(alloc: Global, levels: u8) -> Result<Vec<u8>, AllocError> {
+    let levels = u32::from(levels);
+    let mut doc = Vec::new(alloc);
+    put(&mut doc, 32 * (8 * levels) + 1)?;
+    for level in 1..levels {
+        put(&mut doc, 0x20)?;
+        put(&mut doc, 32 * (8 * level + 4) + 5)?;
     }
+    put(&mut doc, 0)?;
+    put(&mut doc, 0)?;
+    Ok(doc)
 }
 
-fn deepest(rt: &impl Print) -> io::Result<()> {
-    let mut doc = [0u8; 516];
-    put_levels(&mut doc, 63);
-    check(rt, "B depth 64 = ", &doc)
-}
-
-fn too_deep(rt: &impl Print) -> io::Result<()> {
-    let mut doc = [0u8; 524];
-    put_levels(&mut doc, 64);
-    check(rt, "B depth 65 = ", &doc)
-}
-
-pub(crate) fn run(rt: &impl Print) -> io::Result<()> {
-    deepest(rt)?;
-    too_deep(rt)
+pub(crate) fn run(rt: &(impl Print + AllocGlobal)) -> io::Result<()> {
+    for levels in [64, 65] {
+        let doc = nested(rt.alloc(), levels)?;
+        let mut marks = [0u8; 256];
+        println!(rt;
+            "B depth {levels} = {}",
+            Said(binary_json::check(&doc, &mut marks))
+        )?;
+    }
+    Ok(())
 }

@@ -1,200 +1,140 @@
 // Fractured JSON: depths, strings, keys, indices and the key table.
-use crate::documents::{put, put_run, put_two};
-use crate::say::{number, two, verdict};
-use fractured_json::Text;
+use crate::say::Said;
+use json_model::Span;
+use std::alloc::{AllocError, Global};
+use std::fmt::Display;
 use std::io;
+use std::iter::repeat_n;
 
-fn say_word(rt: &impl Print, w: u32) -> io::Result<()> {
-    number(rt, w as usize)
+// A key list without a name; also in `rulings` and `frame`: a constant of a reader's crate would be no plainer.
+const NO_NAMES: [u8; 3] = [0; 3];
+
+// The verdict, the number of pairs and the last pair.
+fn check_with(
+    rt: &impl Print,
+    case: impl Display + Drop,
+    doc: &[u8],
+    keys: &mut [u32],
+) -> io::Result<()> {
+    let checked = fractured_json::check(doc, &NO_NAMES, keys);
+    let count = checked.count;
+    print!(rt; "F {case} = {} {count}", Said(checked.verdict))?;
+    if let Some([.., place, len]) = keys.get(..count.saturating_mul(2)) {
+        print!(rt; " {place} {len}")?;
+    }
+    println!(rt)
 }
 
-// The words of the pair before the first `end` words.
-fn say_pair(rt: &impl Print, keys: &[u32], end: usize) -> io::Result<()> {
-    if end <= keys.len() {
-        if 2 <= end {
-            say_word(rt, keys[end - 2])?;
-            say_word(rt, keys[end - 1])?;
+fn check(rt: &impl Print, case: impl Display + Drop, doc: &[u8]) -> io::Result<()> {
+    check_with(rt, case, doc, &mut [0; 2])
+}
+
+// A document that ends with zeros.
+fn with_zeros(alloc: Global, start: &[u8], zeros: usize) -> Result<Vec<u8>, AllocError> {
+    let mut doc = Vec::from_slice(alloc, start)?;
+    doc.extend(repeat_n(0, zeros))?;
+    Ok(doc)
+}
+
+// ---- depths
+
+// Arrays in each other: the last is empty.
+fn nested(alloc: Global, levels: usize) -> Result<Vec<u8>, AllocError> {
+    let mut doc = Vec::from_slice(alloc, b"FJ\x01")?;
+    for _ in 1..levels {
+        doc.push(0x9F)?;
+    }
+    doc.push(0x9E)?;
+    Ok(doc)
+}
+
+fn depths(rt: &(impl Print + AllocGlobal)) -> io::Result<()> {
+    for levels in [64, 65] {
+        check(
+            rt,
+            format_args!("depth {levels}"),
+            &nested(rt.alloc(), levels)?,
+        )?;
+    }
+    Ok(())
+}
+
+// ---- strings of 87 and 88 bytes
+
+// The string that is the root: its verdict, its place and its length.
+fn string(rt: &impl Print, len: u8, doc: &[u8]) -> io::Result<()> {
+    check(rt, format_args!("string {len}"), doc)?;
+    print!(rt; "F string {len} stands at and has")?;
+    match fractured_json::string(doc, &NO_NAMES, 3) {
+        Ok(Span { place, len }) => println!(rt; " {place} {len}"),
+        Err(_) => println!(rt; " refused"),
+    }
+}
+
+fn strings(rt: &(impl Print + AllocGlobal)) -> io::Result<()> {
+    string(rt, 87, &with_zeros(rt.alloc(), b"FJ\x01\x6D", 87)?)?;
+    string(rt, 88, &with_zeros(rt.alloc(), b"FJ\x01\x0D\x58", 88)?)
+}
+
+// ---- keys of 83 and 84 bytes, with null
+
+fn keys(rt: &(impl Print + AllocGlobal)) -> io::Result<()> {
+    check(
+        rt,
+        "key 83",
+        &with_zeros(rt.alloc(), b"FJ\x01\x6F\x56", 83 + 1)?,
+    )?;
+    check(
+        rt,
+        "key 84",
+        &with_zeros(rt.alloc(), b"FJ\x01\x6F\x00\x54", 84 + 1)?,
+    )
+}
+
+// ---- an index of three bytes: as the length of an immediate key, as a back reference and as a global index
+
+fn indices(rt: &impl Print) -> io::Result<()> {
+    for third in [3, 4] {
+        for (key, form) in [("immediate", 0), ("back", 1), ("global", 2)] {
+            let doc = [b'F', b'J', 1, 0x6F, form, 0xFF, 0xFF, third, 0];
+            check(rt, format_args!("{key} FFFF{third:02X}"), &doc)?;
         }
     }
     Ok(())
 }
 
-// The verdict, the number of pairs and the last pair.
-fn check_with(rt: &impl Print, case: &str, doc: &[u8], keys: &mut [u32]) -> io::Result<()> {
-    print!(rt; "{case}")?;
-    let list = [0u8; 3];
-    let c = fractured_json::check(doc, &list, keys);
-    let v = c.verdict;
-    let n = c.count;
-    verdict(rt, v)?;
-    number(rt, n)?;
-    if n <= 4096 {
-        say_pair(rt, keys, 2 * n)?;
-    }
-    println!(rt)
-}
-
-fn check(rt: &impl Print, case: &str, doc: &[u8]) -> io::Result<()> {
-    let mut keys = [0u32; 2];
-    check_with(rt, case, doc, &mut keys)
-}
-
-// Place and length of the string that is the root.
-fn string(rt: &impl Print, case: &str, doc: &[u8]) -> io::Result<()> {
-    print!(rt; "{case}")?;
-    let list = [0u8; 3];
-    let t = fractured_json::string(doc, &list, 3);
-    match t {
-        Text::At { place, len } => two(rt, place, len)?,
-        Text::Refused(_) => print!(rt; " refused")?,
-    }
-    println!(rt)
-}
-
-// The header and the root's type byte.
-fn open(doc: &mut [u8], root: u8) {
-    put(doc, 0, 0x46);
-    put(doc, 1, 0x4A);
-    put(doc, 2, 0x01);
-    put(doc, 3, root);
-}
-
-// ---- depths
-
-// Arrays in each other from byte 3 on: the last, which is empty, is at `last`.
-fn put_levels(doc: &mut [u8], last: usize) {
-    open(doc, 0x9F);
-    put_run(doc, 4, last, 0x9F);
-    put(doc, last, 0x9E);
-}
-
-fn deepest(rt: &impl Print) -> io::Result<()> {
-    let mut doc = [0u8; 67];
-    put_levels(&mut doc, 66);
-    check(rt, "F depth 64 = ", &doc)
-}
-
-fn too_deep(rt: &impl Print) -> io::Result<()> {
-    let mut doc = [0u8; 68];
-    put_levels(&mut doc, 67);
-    check(rt, "F depth 65 = ", &doc)
-}
-
-// ---- strings of 87 and 88 bytes
-
-fn longest_tiny(rt: &impl Print) -> io::Result<()> {
-    let mut doc = [0u8; 91];
-    open(&mut doc, 0x6D);
-    check(rt, "F string 87 = ", &doc)?;
-    string(rt, "F string 87 stands at and has", &doc)
-}
-
-fn shortest_sized(rt: &impl Print) -> io::Result<()> {
-    let mut doc = [0u8; 93];
-    open(&mut doc, 0x0D);
-    put(&mut doc, 4, 88);
-    check(rt, "F string 88 = ", &doc)?;
-    string(rt, "F string 88 stands at and has", &doc)
-}
-
-// ---- keys of 83 and 84 bytes, with null
-
-fn longest_tiny_key(rt: &impl Print) -> io::Result<()> {
-    let mut doc = [0u8; 89];
-    open(&mut doc, 0x6F);
-    put(&mut doc, 4, 0x56);
-    check(rt, "F key 83 = ", &doc)
-}
-
-fn shortest_sized_key(rt: &impl Print) -> io::Result<()> {
-    let mut doc = [0u8; 91];
-    open(&mut doc, 0x6F);
-    put(&mut doc, 5, 84);
-    check(rt, "F key 84 = ", &doc)
-}
-
-// ---- an index of three bytes: as the length of an immediate key, as a back reference and as a global index
-
-fn highest_index(rt: &impl Print) -> io::Result<()> {
-    check(
-        rt,
-        "F immediate FFFF03 = ",
-        b"\x46\x4A\x01\x6F\x00\xFF\xFF\x03\x00",
-    )?;
-    check(
-        rt,
-        "F back FFFF03 = ",
-        b"\x46\x4A\x01\x6F\x01\xFF\xFF\x03\x00",
-    )?;
-    check(
-        rt,
-        "F global FFFF03 = ",
-        b"\x46\x4A\x01\x6F\x02\xFF\xFF\x03\x00",
-    )
-}
-
-fn too_high_index(rt: &impl Print) -> io::Result<()> {
-    check(
-        rt,
-        "F immediate FFFF04 = ",
-        b"\x46\x4A\x01\x6F\x00\xFF\xFF\x04\x00",
-    )?;
-    check(
-        rt,
-        "F back FFFF04 = ",
-        b"\x46\x4A\x01\x6F\x01\xFF\xFF\x04\x00",
-    )?;
-    check(
-        rt,
-        "F global FFFF04 = ",
-        b"\x46\x4A\x01\x6F\x02\xFF\xFF\x04\x00",
-    )
-}
-
 // ---- the key table
 
-// Member i: a key of two bytes and null.
-fn put_member(doc: &mut [u8], i: u16) {
-    let at = 6 + 4 * (i as u32);
-    put(doc, at as usize, 0x05);
-    put_two(doc, at + 1, i);
-}
-
-// An object of n members with distinct keys.
-fn put_members(doc: &mut [u8], n: u16) {
-    open(doc, 0x11);
-    put_two(doc, 4, n);
-    let mut i: u16 = 0;
-    while i < n {
-        put_member(doc, i);
-        i += 1;
+// An object with so many members: each has a key of two bytes, which are its number, and null.
+fn object(alloc: Global, members: u16) -> Result<Vec<u8>, AllocError> {
+    let mut doc = Vec::from_slice(alloc, b"FJ\x01\x11")?;
+    doc.extend_from_slice(&members.to_le_bytes())?;
+    for i in 0..members {
+        doc.push(0x05)?;
+        doc.extend_from_slice(&i.to_le_bytes())?;
+        doc.push(0x00)?;
     }
+    Ok(doc)
 }
 
-fn full_table(rt: &impl Print) -> io::Result<()> {
-    let mut keys = [0u32; 8192];
-    let mut doc = [0u8; 16390];
-    put_members(&mut doc, 4096);
-    check_with(rt, "F keys 4096 = ", &doc, &mut keys)
+// A full table, and one key more: then the table has words for one pair more, and room for none.
+fn full_table(rt: &(impl Print + AllocGlobal)) -> io::Result<()> {
+    for members in [4096, 4097] {
+        let mut keys = vec![in rt.alloc(); 0; 2 * usize::from(members)]?;
+        check_with(
+            rt,
+            format_args!("keys {members}"),
+            &object(rt.alloc(), members)?,
+            &mut keys,
+        )?;
+    }
+    Ok(())
 }
 
-// The table has words for one pair more, and room for none.
-fn one_key_more(rt: &impl Print) -> io::Result<()> {
-    let mut keys = [0u32; 8194];
-    let mut doc = [0u8; 16394];
-    put_members(&mut doc, 4097);
-    check_with(rt, "F keys 4097 = ", &doc, &mut keys)
-}
-
-pub(crate) fn run(rt: &impl Print) -> io::Result<()> {
-    deepest(rt)?;
-    too_deep(rt)?;
-    longest_tiny(rt)?;
-    shortest_sized(rt)?;
-    longest_tiny_key(rt)?;
-    shortest_sized_key(rt)?;
-    highest_index(rt)?;
-    too_high_index(rt)?;
-    full_table(rt)?;
-    one_key_more(rt)
+pub(crate) fn run(rt: &(impl Print + AllocGlobal)) -> io::Result<()> {
+    depths(rt)?;
+    strings(rt)?;
+    keys(rt)?;
+    indices(rt)?;
+    full_table(rt)
 }

@@ -1,22 +1,15 @@
-// How a case and its answer are written.
+// How a verdict is written.
 use json_model::Verdict;
-use std::io;
+use std::fmt;
 
-// A space and a number.
-pub(crate) fn number(rt: &impl Print, n: usize) -> io::Result<()> {
-    print!(rt; " {n}")
-}
+#[derive(Drop)]
+pub(crate) struct Said(pub Verdict);
 
-pub(crate) fn two(rt: &impl Print, a: usize, b: usize) -> io::Result<()> {
-    print!(rt; " {a} {b}")
-}
-
-pub(crate) fn verdict(rt: &impl Print, v: Verdict) -> io::Result<()> {
-    match v {
-        Verdict::Accepted => print!(rt; "ok"),
-        Verdict::Refused(r) => {
-            print!(rt; "no")?;
-            two(rt, r.number as usize, r.place)
+impl fmt::Display for Said {
+    fn fmt<W: fmt::Write>(&self, f: &mut fmt::Formatter<W>) -> fmt::Result {
+        match self.0 {
+            Ok(()) => write!(f, "ok"),
+            Err(r) => write!(f, "no {} {}", r.number, r.place),
         }
     }
 }

@@ -1,116 +1,65 @@
 // The questions of both formats, by name, and their arguments.
-use crate::parse::{Said, bytes, count, number, part, up, which};
+use crate::parse::{bytes, number};
+use crate::unanswered::Unanswered;
+use std::alloc::Global;
 
-// The questions, by their places in the list of names.
-pub const CHECK: usize = 0;
+// How many bytes a key has at most.
+const MOST_KEY: usize = 256;
 
-pub const END: usize = 1;
-
-pub const KIND: usize = 2;
-
-pub const KIND_AND_SIZE: usize = 3;
-
-pub const ENTRY_TYPE: usize = 4;
-
-pub const CONTAINER: usize = 5;
-
-pub const NUMBER: usize = 6;
-
-pub const SLOT: usize = 7;
-
-pub const SLOT_TEXT: usize = 8;
-
-pub const STRING: usize = 9;
-
-pub const STRING_TEXT: usize = 10;
-
-pub const ELEMENT: usize = 11;
-
-pub const MEMBER: usize = 12;
-
-pub const PLAIN_SCAN: usize = 13;
-
-pub const QUICK_LOOKUP: usize = 14;
-
-pub const FIRST_MEMBER: usize = 15;
-
-pub const UNREADABLE: usize = 16;
-
-fn named(name: &[u8]) -> usize {
-    which(
-        b"check end kind kind_and_size entry_type container number slot slot_text string string_text element member plain_scan quick_lookup first_member",
-        name,
-    )
-}
-
-fn is(s: Said) -> bool {
-    match s {
-        Said::Is(_) => true,
-        Said::Nothing => false,
-    }
-}
-
-fn value(s: Said) -> usize {
-    match s {
-        Said::Is(x) => x,
-        Said::Nothing => 0,
-    }
-}
-
-// Whether a question has the arguments that it takes: `words` of them, and those that could be read.
-fn fits(q: usize, words: usize, cursor: bool, index: bool, key: bool) -> bool {
-    if q == CHECK {
-        return words == 0;
-    }
-    if q < ELEMENT {
-        return words == 1 && cursor;
-    }
-    if q < PLAIN_SCAN {
-        return words == 2 && cursor && index;
-    }
-    words == 2 && cursor && key
-}
-
-// A question with its arguments. The key stands in a buffer, with this length.
+// A question with its cursor, and with its index or key.
 #[derive(Drop)]
-pub struct Asked {
-    pub question: usize,
-    pub cursor: usize,
-    pub index: usize,
-    pub key: usize,
+pub(crate) enum Question {
+    Check,
+    End(usize),
+    Kind(usize),
+    KindAndSize(usize),
+    EntryType(usize),
+    Container(usize),
+    Number(usize),
+    Slot(usize),
+    SlotText(usize),
+    String(usize),
+    StringText(usize),
+    Element(usize, usize),
+    Member(usize, usize),
+    PlainScan(usize, Vec<u8>),
+    QuickLookup(usize, Vec<u8>),
+    FirstMember(usize, Vec<u8>),
 }
 
-fn ask(q: usize, words: usize, cursor: Said, index: Said, key: Said) -> Asked {
-    let is_fit = fits(q, words, is(cursor), is(index), is(key));
-    Asked {
-        question: if is_fit { q } else { UNREADABLE },
-        cursor: value(cursor),
-        index: value(index),
-        key: value(key),
+fn at_cursor(name: &str, cursor: usize) -> Result<Question, Unanswered> {
+    match name {
+        "end" => Ok(Question::End(cursor)),
+        "kind" => Ok(Question::Kind(cursor)),
+        "kind_and_size" => Ok(Question::KindAndSize(cursor)),
+        "entry_type" => Ok(Question::EntryType(cursor)),
+        "container" => Ok(Question::Container(cursor)),
+        "number" => Ok(Question::Number(cursor)),
+        "slot" => Ok(Question::Slot(cursor)),
+        "slot_text" => Ok(Question::SlotText(cursor)),
+        "string" => Ok(Question::String(cursor)),
+        "string_text" => Ok(Question::StringText(cursor)),
+        _ => Err(Unanswered::Unreadable),
     }
 }
 
-// The words after word `k` of a row that ends with the mark ` = `.
-fn words_after(row: &[u8], k: usize) -> usize {
-    let n = count(row, b' ');
-    if n < 2 {
-        return n;
+fn inside(alloc: Global, name: &str, cursor: usize, last: &str) -> Result<Question, Unanswered> {
+    match name {
+        "element" => Ok(Question::Element(cursor, number(last)?)),
+        "member" => Ok(Question::Member(cursor, number(last)?)),
+        "plain_scan" => Ok(Question::PlainScan(cursor, bytes(alloc, last, MOST_KEY)?)),
+        "quick_lookup" => Ok(Question::QuickLookup(cursor, bytes(alloc, last, MOST_KEY)?)),
+        "first_member" => Ok(Question::FirstMember(cursor, bytes(alloc, last, MOST_KEY)?)),
+        _ => Err(Unanswered::Unreadable),
     }
-    if n - 2 < k {
-        return n;
-    }
-    n - 2 - k
 }
 
-// The question whose name is word `k` of the row.
-pub(crate) fn read(row: &[u8], k: usize, key: &mut [u8]) -> Asked {
-    let cursor = part(row, b' ', up(k));
-    let last = part(row, b' ', up(up(k)));
-    ask(
-        named(part(row, b' ', k)),
-        words_after(row, k),
-        number(cursor),
-        number(last),
-        bytes(last, key),
-    )
+// The question that the words are.
+pub(crate) fn read(alloc: Global, words: &[&str]) -> Result<Question, Unanswered> {
+    match *words {
+        ["check"] => Ok(Question::Check),
+        [name, cursor] => at_cursor(name, number(cursor)?),
+        [name, cursor, last] => inside(alloc, name, number(cursor)?, last),
+        _ => Err(Unanswered::Unreadable),
+    }
 }

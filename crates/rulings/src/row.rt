@@ -1,78 +1,74 @@
 // One row of the rulings: its question is answered, and the answer held to the one that the row gives.
-use crate::parse::{Said, bytes, cut, part, which};
-use crate::spell::put_text;
+use crate::parse::bytes;
+use crate::spell::refusal;
+use crate::unanswered::Unanswered;
 use crate::{binary, fractured};
+use std::alloc::Global;
 use std::io;
-use text::same;
 
-// How many bytes of the mark ` = ` are met, once `c` is read after `k` of them.
-fn step(k: usize, c: u8) -> usize {
-    if c == b' ' {
-        if k == 2 {
-            return 3;
-        }
-        return 1;
-    }
-    if c == b'=' {
-        if k == 1 {
-            return 2;
-        }
-    }
-    0
-}
+// The mark before the answer that a row gives.
+const MARK: &[u8] = b" = ";
 
-// Where the given answer starts, after the first mark; 0 where there is none.
-fn after_mark(line: &[u8]) -> usize {
-    let mut k = 0;
-    let mut i = 0;
-    while i < line.len() {
-        k = step(k, line[i]);
-        i += 1;
-        if k == 3 {
-            return i;
-        }
-    }
-    0
-}
+// How many bytes a document has at most.
+const MOST_BYTES: usize = 2048;
 
-// Spells the answer to a row's question, or nothing where the row cannot be read.
-fn answer(out: &mut [u8], n: usize, row: &[u8]) -> usize {
-    let mut doc = [0u8; 2048];
-    let len = bytes(part(row, b' ', 1), &mut doc);
-    let Said::Is(len) = len else {
-        return n;
+// How many bytes a row and its answer have at most. A longer answer is cut: what the program writes may not change.
+const ROOM: usize = 16384;
+
+// Spells the answer to a row's question.
+fn ask(alloc: Global, row: &str) -> Result<String, Unanswered> {
+    let words: Vec<&str> = row.split(' ').collect(alloc)?;
+    let [format, doc, asked @ ..] = words.as_slice() else {
+        return Err(Unanswered::Unreadable);
     };
-    let format = which(b"B F", part(row, b' ', 0));
-    match format {
-        0 => binary::answer(out, n, cut(&doc, 0, len), row),
-        1 => fractured::answer(out, n, cut(&doc, 0, len), row),
-        _ => n,
+    let doc = bytes(alloc, doc, MOST_BYTES)?;
+    match *format {
+        "B" => binary::answer(alloc, &doc, asked),
+        "F" => fractured::answer(alloc, &doc, asked),
+        _ => Err(Unanswered::Unreadable),
     }
 }
 
-// A remark and a text, which end a line.
-fn say_last(rt: &impl Print, remark: &str, t: &[u8]) -> io::Result<()> {
-    print!(rt; "{remark}")?;
-    rt.write_all(t)?;
-    println!(rt)
-}
-
-// Writes a row with its answer, which are put together in `out`, and answers whether the given one agrees.
-pub(crate) fn run(rt: &impl Print, out: &mut [u8], line: &[u8]) -> io::Result<bool> {
-    let at = after_mark(line);
-    let row = cut(line, 0, at);
-    let given = cut(line, at, line.len());
-    let from = put_text(out, 0, row);
-    let to = answer(out, from, row);
-    if to == from {
-        say_last(rt, "UNREADABLE ", line)?;
-        return Ok(false);
-    }
-    rt.write_all(cut(out, 0, to))?;
-    if same(cut(out, from, to), given) {
+// Writes a row with its answer, and answers whether the given one agrees.
+fn compare(rt: &impl Print, row: &[u8], answer: &[u8], given: &[u8]) -> io::Result<bool> {
+    rt.write_all(row)?;
+    rt.write_all(MARK)?;
+    rt.write_all(answer)?;
+    if answer == given {
         println!(rt)?;
         return Ok(true);
     }
-    say_last(rt, " WRONG, given: ", given)?;
+    print!(rt; " WRONG, given: ")?;
+    rt.write_all(given)?;
+    println!(rt)?;
     Ok(false)
+}
+
+fn unreadable(rt: &impl Print, line: &[u8]) -> io::Result<bool> {
+    print!(rt; "UNREADABLE ")?;
+    rt.write_all(line)?;
+    println!(rt)?;
+    Ok(false)
+}
+
+// Runs a row, and answers whether the answer that it gives agrees.
+pub(crate) fn run(rt: &(impl Print + AllocGlobal), line: &[u8]) -> io::Result<bool> {
+    let Some(at) = line.windows(MARK.len()).position(|part| part == MARK) else {
+        return unreadable(rt, line);
+    };
+    let row = &line[..at];
+    let given = &line[at + MARK.len()..];
+    // A byte that is not UTF-8 is no part of a question, and is not looked at where nothing is asked.
+    let words = String::from_utf8_lossy(rt.alloc(), row)?;
+    let answer = match ask(rt.alloc(), &words) {
+        Ok(answer) => answer,
+        Err(Unanswered::Refused(r)) => refusal(rt.alloc(), r)?,
+        Err(Unanswered::Unreadable) => return unreadable(rt, line),
+        Err(Unanswered::Memory(e)) => return Err(e.into()),
+    };
+    let room = ROOM.saturating_sub(at + MARK.len()).min(answer.len());
+    if room == 0 {
+        return unreadable(rt, line);
+    }
+    compare(rt, row, &answer.as_bytes()[..room], given)
 }

@@ -1,96 +1,94 @@
-// How answers are spelled: bytes are put into a block after the first `n`, and each function answers how many there are then.
-ghost use Rattle.std.specs.Prelude.{[], ◌∷◌, decimal};
-ghost use Rattle.rulings.specs.Puts.{Puts};
+// How answers are spelled.
+ghost use Rattle.std.specs.Prelude.{◌≡◌, ◌++◌, OnOk, IfOk, codes, flat_map, string_bytes};
+ghost use Rattle.rulings.specs.Spelled.{spaced, spelling};
 
-use crate::answers::Answer;
-use crate::parse::part;
+use json_model::{Refusal, Span};
+use std::alloc::{AllocError, Global};
 
-// A byte, where there is room.
-pub(crate) fn put(out: &mut [u8], n: usize, x: u8) -> usize
-    ensures { Puts out.old n (x ∷ []) out.new result }
+// What an answer starts with.
+#[derive(Clone, Copy)]
+pub(crate) enum Word {
+    Answered,
+    Absent,
+    Refused,
+    Null,
+    False,
+    True,
+    Number,
+    String,
+    Object,
+    Array,
+}
+
+impl Word {
+    fn spelling(self) -> &'static str
+        ensures { result.now ≡ spelling self }
+    {
+        match self {
+            Word::Answered => "ok",
+            Word::Absent => "absent",
+            Word::Refused => "no",
+            Word::Null => "ok null",
+            Word::False => "ok false",
+            Word::True => "ok true",
+            Word::Number => "ok number",
+            Word::String => "ok string",
+            Word::Object => "ok object",
+            Word::Array => "ok array",
+        }
+    }
+}
+
+// Puts a space and a number after a text.
+pub(crate) fn put_number(text: &mut String, x: usize) -> Result<(), AllocError>
+    ensures { OnOk result (string_bytes text.new ≡ string_bytes text.old ++ spaced x) }
 {
-    if n < out.len() {
-        out[n] = x;
-        return n + 1;
-    }
-    n
+    write!(text, " {x}")
 }
 
-pub(crate) fn put_text(out: &mut [u8], n: usize, t: &[u8]) -> usize {
-    let mut n = n;
-    let mut i = 0;
-    while i < t.len() {
-        n = put(out, n, t[i]);
-        i += 1;
+// A word, and numbers after it.
+pub(crate) fn answer(alloc: Global, word: Word, numbers: &[usize]) -> Result<String, AllocError>
+    ensures { IfOk result (λ text. string_bytes text ≡ spelling word ++ flat_map spaced numbers.now) }
+{
+    let mut text = String::from_str(alloc, word.spelling())?;
+    for x in numbers {
+        put_number(&mut text, *x)?;
     }
-    n
+    Ok(text)
 }
 
-fn glyph(d: u8) -> u8 {
-    if d < 10 {
-        return b'0' + d;
-    }
-    if d < 16 {
-        return b'A' - 10 + d;
-    }
-    b'?'
+pub(crate) fn ok(alloc: Global, numbers: &[usize]) -> Result<String, AllocError>
+    ensures { IfOk result (λ text. string_bytes text ≡ codes "ok" ++ flat_map spaced numbers.now) }
+{
+    answer(alloc, Word::Answered, numbers)
 }
 
-fn put_byte(out: &mut [u8], n: usize, x: u8) -> usize {
-    let n = put(out, n, glyph(x / 16));
-    put(out, n, glyph(x % 16))
+pub(crate) fn refusal(alloc: Global, r: Refusal) -> Result<String, AllocError>
+    ensures { IfOk result (λ text. string_bytes text ≡ codes "no" ++ spaced r.number ++ spaced r.place) }
+{
+    answer(alloc, Word::Refused, &[r.number as usize, r.place])
+}
+
+pub(crate) fn span(alloc: Global, s: Span) -> Result<String, AllocError> {
+    ok(alloc, &[s.place, s.len])
+}
+
+// The place of what was sought, if it is there.
+pub(crate) fn found(alloc: Global, place: Option<usize>) -> Result<String, AllocError> {
+    match place {
+        Some(at) => ok(alloc, &[at]),
+        None => answer(alloc, Word::Absent, &[]),
+    }
 }
 
 // A text in hexadecimal, or `-`.
-pub(crate) fn put_hex(out: &mut [u8], n: usize, t: &[u8]) -> usize {
-    if t.len() == 0 {
-        return put(out, n, b'-');
+pub(crate) fn hex(alloc: Global, bytes: &[u8]) -> Result<String, AllocError> {
+    let mut text = String::new(alloc);
+    if bytes.is_empty() {
+        text.push('-')?;
     }
-    let mut n = n;
-    let mut i = 0;
-    while i < t.len() {
-        n = put_byte(out, n, t[i]);
-        i += 1;
+    for byte in bytes {
+        write!(text, "{byte:02X}")?;
     }
-    n
-}
-
-// A number in decimal digits, the highest first.
-#[tactic(auto, using(std::proofs::lemmas::Fmt::decimal_digit))]
-fn put_decimal(out: &mut [u8], n: usize, x: usize) -> usize
-    ensures { Puts out.old n (decimal x) out.new result }
-{
-    if x < 10 {
-        return put(out, n, b'0' + x as u8);
-    }
-    let n = put_decimal(out, n, x / 10);
-    put(out, n, b'0' + (x % 10) as u8)
-}
-
-// A space and a number.
-pub(crate) fn put_number(out: &mut [u8], n: usize, x: usize) -> usize
-    ensures { Puts out.old n (32 ∷ decimal x) out.new result }
-{
-    let n = put(out, n, b' ');
-    put_decimal(out, n, x)
-}
-
-fn nth(numbers: [usize; 4], i: usize) -> usize {
-    if i < 4 {
-        return numbers[i];
-    }
-    0
-}
-
-pub(crate) fn put_answer(out: &mut [u8], n: usize, a: Answer) -> usize {
-    let words = b"ok,absent,no,ok null,ok false,ok true,ok number,ok string,ok object,ok array";
-    let mut n = put_text(out, n, part(words, b',', a.word));
-    let numbers = a.numbers;
-    let len = a.len;
-    let mut i = 0;
-    while i < len {
-        n = put_number(out, n, nth(numbers, i));
-        i += 1;
-    }
-    n
+    Ok(text)
 }

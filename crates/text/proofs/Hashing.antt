@@ -1,7 +1,7 @@
 -- One law for each way through hash.rt, and what a hash is good for: it is small, and a function of the text.
-use mathlib.Core.Path.{◌≡◌, refl}
+use mathlib.Core.Path.{◌≡◌, refl, sym}
 use mathlib.Core.List.{List}
-use Prim.Native.Nat.{ℕ, zero, suc, ◌+◌, ◌-◌, ◌*◌, ◌/◌, ◌%◌, ◌^◌, ◌≤◌, ◌<◌}
+use Prim.Native.Nat.{ℕ, zero, suc, ◌+◌, ◌-◌, ◌*◌, ◌/◌, ◌%◌, ◌^◌, ◌<◌}
 use native.Mathlib.Nat.{mod-lt}
 use native.Mathlib.Omega.{arith}
 use borrow.Author.Rules.{rules}
@@ -21,18 +21,22 @@ pub ruleset mix_laws = (scrambles, mixes, rules)
 
 -- ---- the loop: the hash from here on is the hash of the text
 
-module _ (t : List ℕ) (h i left x : ℕ) (here : hash_from t h i left ≡ x) where
-  pub hash_goes_on : 0 < left → (w r : ℕ) → w ≡ number t i 8 → r ≡ mixed h w → hash_from t r (i + 8) (left - 1) ≡ x
+module _ (t : List ℕ) (h n k x : ℕ) (here : hash_from t h (8 * k) (n - k) ≡ x) where
+  pub hash_goes_on : k < n → (w r : ℕ) → w ≡ number t (8 * k) 8 → r ≡ mixed h w → hash_from t r (8 * (k + 1)) (n - (k + 1)) ≡ x
   unfolding hash_from
-  hash_goes_on l w r e f = let z : left ≡ suc (left - 1) = omega arith in rw (f, e) (rw z at here)
+  hash_goes_on l w r e f =
+      let z : n - k ≡ suc (n - (k + 1)) = omega arith in
+      let p : 8 * k + 8 ≡ 8 * (k + 1) = omega arith in
+      rw (f, e, sym p) (rw z at here)
 
-  pub hash_ends : left ≤ 0 → (w r : ℕ) → w ≡ number t i (length t - i) → r ≡ mixed h w → r % 4_294_967_296 ≡ x
+module _ (t : List ℕ) (h n x : ℕ) (here : hash_from t h (8 * n) (n - n) ≡ x) where
+  pub hash_ends : (w r : ℕ) → w ≡ number t (8 * n) (length t - 8 * n) → r ≡ mixed h w → r % 4_294_967_296 ≡ x
   unfolding hash_from
-  hash_ends l w r e f = let z : left ≡ 0 = omega arith in rw (f, e) (rw z at here)
+  hash_ends w r e f = let z : n - n ≡ 0 = omega arith in rw (f, e) (rw z at here)
 
-pub hash_begins : (t : List ℕ) → hash_from t 0 0 (length t / 8) ≡ hash_of t
+pub hash_begins : (t : List ℕ) → hash_from t 0 0 (length t / 8 - 0) ≡ hash_of t
 unfolding hash_of
-hash_begins t = refl
+hash_begins t = let z : length t / 8 - 0 ≡ length t / 8 = omega arith in rw z
 
 pub ruleset hash_laws = (hash_goes_on, hash_ends, hash_begins, rules)
 

@@ -10,8 +10,8 @@ use lib.ListN.{length, take, drop, get_or, length-drop}
 use lib.Seq.{length-take-le, get_or-take, get_or-drop, ext_get_or}
 use Rattle.json_model.specs.Choose.{choose}
 use Rattle.json_model.specs.Texts.{compare_texts, is_equal}
-use Rattle.json_model.specs.declared.Order.{Order}
-use Rattle.json_model.specs.declared.Order.TheVariants.{Below, Equal, Above}
+use Rattle.std.specs.declared.cmp.Ordering.{Ordering}
+use Rattle.std.specs.declared.cmp.Ordering.TheVariants.{Less, Equal, Greater}
 use Rattle.json_model.proofs.Texts.{texts_equal}
 use Rattle.text.specs.Steps.{alike, step, compare_steps}
 use Rattle.text.proofs.Steps.{by_next, steps_none}
@@ -33,10 +33,10 @@ module _ (n : ℕ) (a b : List ℕ) where
   unfolding step alike choose
   step_ends p l unlike = go (compare_texts (take n a) (take n b)) (λ e. unlike (sym (get_or-take n a p 0 l) ∙ ap (λ x. get_or x p 0) ((texts_equal (take n a) (take n b)).0 e) ∙ get_or-take n b p 0 l))
     where
-      go : (o : Order) → (o ≡ Equal → ⊥) → suc (choose (is_equal o) (compare_steps (drop n a) (drop n b)) 0) ≡ 1
-      go Below h = refl
+      go : (o : Ordering) → (o ≡ Equal → ⊥) → suc (choose (is_equal o) (compare_steps (drop n a) (drop n b)) 0) ≡ 1
+      go Less h = refl
       go Equal h = absurd (h refl)
-      go Above h = refl
+      go Greater h = refl
 
 same_on : (n p : ℕ) (a b : List ℕ) → n ≤ p → SameTo p a b → SameTo (p - n) (drop n a) (drop n b)
 same_on n p a b h same i l = get_or-drop n a i 0 ∙ same (n + i) (omega arith) ∙ sym (get_or-drop n b i 0)

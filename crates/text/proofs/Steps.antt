@@ -12,8 +12,8 @@ use lib.Dec.{leb}
 use lib.ListN.{length, take, drop, length-drop}
 use Rattle.json_model.specs.Choose.{choose}
 use Rattle.json_model.specs.Texts.{compare_texts, is_equal}
-use Rattle.json_model.specs.declared.Order.{Order}
-use Rattle.json_model.specs.declared.Order.TheVariants.{Below, Equal, Above}
+use Rattle.std.specs.declared.cmp.Ordering.{Ordering}
+use Rattle.std.specs.declared.cmp.Ordering.TheVariants.{Less, Equal, Greater}
 use Rattle.json_model.proofs.Texts.{below≢equal, equal≢above, texts_above}
 use Rattle.text.specs.Steps.{left, alike, step, steps_within, compare_steps}
 
@@ -130,16 +130,16 @@ alike_turned : (n : ℕ) (a b : List ℕ) → alike n a b ≡ alike n b a
 unfolding alike
 alike_turned n a b = go (compare_texts (take n a) (take n b)) (compare_texts (take n b) (take n a)) (texts_above (take n a) (take n b)) (texts_above (take n b) (take n a))
   where
-    go : (o p : Order) → (o ≡ Above) ↔ (p ≡ Below) → (p ≡ Above) ↔ (o ≡ Below) → is_equal o ≡ is_equal p
-    go Below Below h g = refl
-    go Below Equal h g = absurd (equal≢above (g.1 refl))
-    go Below Above h g = refl
-    go Equal Below h g = absurd (equal≢above (h.1 refl))
+    go : (o p : Ordering) → (o ≡ Greater) ↔ (p ≡ Less) → (p ≡ Greater) ↔ (o ≡ Less) → is_equal o ≡ is_equal p
+    go Less Less h g = refl
+    go Less Equal h g = absurd (equal≢above (g.1 refl))
+    go Less Greater h g = refl
+    go Equal Less h g = absurd (equal≢above (h.1 refl))
     go Equal Equal h g = refl
-    go Equal Above h g = absurd (below≢equal (sym (g.0 refl)))
-    go Above Below h g = refl
-    go Above Equal h g = absurd (below≢equal (sym (h.0 refl)))
-    go Above Above h g = refl
+    go Equal Greater h g = absurd (below≢equal (sym (g.0 refl)))
+    go Greater Less h g = refl
+    go Greater Equal h g = absurd (below≢equal (sym (h.0 refl)))
+    go Greater Greater h g = refl
 
 step_turned : (n : ℕ) (a b : List ℕ) → compare_steps (drop n a) (drop n b) ≡ compare_steps (drop n b) (drop n a) → step n compare_steps a b ≡ step n compare_steps b a
 unfolding step

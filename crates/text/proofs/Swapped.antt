@@ -1,18 +1,18 @@
 -- Numbers with their bytes swapped stand in the order of the texts that they were read from, and are swapped by halves.
-use mathlib.Core.Path.{◌≡◌, refl, sym, ap, ◌∙◌}
+use mathlib.Core.Path.{◌≡◌, refl, sym}
 use mathlib.Core.List.{List}
 use Prim.Native.Nat.{ℕ, zero, suc, ◌+◌, ◌*◌, ◌/◌, ◌%◌, ◌^◌, ◌≤◌, ◌<◌}
-use native.Mathlib.Nat.{mul-le-mul_right, pow-succ', mul_assoc, add-mul, div-one, div-div-eq-div-mul}
+use native.Mathlib.Nat.{mul-le-mul_right, pow-succ'}
 use native.Mathlib.Omega.{arith}
-use borrow.Author.Rules.{rules}
 use lib.ListN.{length, get_or}
-use lib.Pow.{pow-add}
 use lib.Seq.{drop-cons}
 use Rattle.json_model.specs.Bytes.{Bytes, number, part}
 use Rattle.json_model.specs.Texts.{by_numbers, compare_numbers, compare_texts}
-use Rattle.json_model.specs.declared.Order.{Order}
-use Rattle.json_model.specs.declared.Order.TheVariants.{Equal}
+use Rattle.std.specs.declared.cmp.Ordering.{Ordering}
+use Rattle.std.specs.declared.cmp.Ordering.TheVariants.{Equal}
 use Rattle.json_model.proofs.Texts.{by_numbers_lem, numbers_below, numbers_equal, numbers_above}
+use mir.Syntax.{w64}
+use Rattle.std.specs.Int.{swap_bytes}
 use Rattle.text.specs.Swapped.{swapped}
 
 pub swapped_small : (n x : ℕ) → swapped n x < 256 ^ n
@@ -53,7 +53,7 @@ digits_compare p x y r s hr hs =
     (λ g. sym ((numbers_above (x * p + r) (y * p + s)).1 (omega arith))))
     (λ g. sym ((numbers_above (x * p + r) (y * p + s)).1 (digit_decides p y x s r hs g)))
   where
-    Is : Order → Type 0
+    Is : Ordering → Type 0
     Is o = o ≡ compare_numbers (x * p + r) (y * p + s)
 
 -- numbers read from two texts, with their bytes swapped, stand in the order of those bytes
@@ -76,25 +76,8 @@ swapped_order a b ga gb (suc n) i ha hb =
     rw (drop-cons a i 0 (omega arith), drop-cons b i 0 (omega arith), lx, ly, hx, hy, o, swapped_order a b ga gb n (i + 1) (omega arith) (omega arith))
     (digits_compare (256 ^ n) x y (swapped n u) (swapped n v) (swapped_small n u) (swapped_small n v))
 
--- by parts
-swapped_parts : (m n x : ℕ) → swapped (m + n) x ≡ swapped m x * 256 ^ n + swapped n (x / 256 ^ m)
+-- ---- by std's words
+
+pub swapped_bytes : (x : ℕ) → swap_bytes w64 x ≡ swapped 8 x
 unfolding swapped
-swapped_parts zero n x = let z : 0 + n ≡ n = omega arith in rw (z, div-one x) (omega arith)
-swapped_parts (suc m) n x =
-    let z : suc m + n ≡ suc (m + n) = omega arith in
-    let d : x / 256 / 256 ^ m ≡ x / 256 ^ suc m = div-div-eq-div-mul x 256 (256 ^ m) ∙ ap (λ (k : ℕ). x / k) (sym (pow-succ' 256 m)) in
-    let r : swapped (m + n) (x / 256) ≡ swapped m (x / 256) * 256 ^ n + swapped n (x / 256 ^ suc m) = rw d at (swapped_parts m n (x / 256)) in
-    let p : x % 256 * 256 ^ (m + n) ≡ x % 256 * 256 ^ m * 256 ^ n = ap (λ (k : ℕ). x % 256 * k) (pow-add 256 m n) ∙ sym (mul_assoc (x % 256) (256 ^ m) (256 ^ n)) in
-    rw (z, r, p, add-mul (x % 256 * 256 ^ m) (swapped m (x / 256)) (256 ^ n)) (omega arith)
-
-pub swapped_two : (x : ℕ) → x % 256 * 256 + x / 256 % 256 ≡ swapped 2 x
-unfolding swapped
-swapped_two x = omega arith
-
-pub swapped_four : (x r s : ℕ) → r ≡ swapped 2 x → s ≡ swapped 2 (x / 65_536) → r * 65_536 + s ≡ swapped 4 x
-swapped_four x r s e f = rw (e, f) (sym (swapped_parts 2 2 x))
-
-pub swapped_eight : (x r s : ℕ) → r ≡ swapped 4 x → s ≡ swapped 4 (x / 4_294_967_296) → r * 4_294_967_296 + s ≡ swapped 8 x
-swapped_eight x r s e f = rw (e, f) (sym (swapped_parts 4 4 x))
-
-pub ruleset swap_laws = (swapped_small, swapped_two, swapped_four, swapped_eight, rules)
+swapped_bytes x = omega arith

@@ -3,6 +3,7 @@ ghost use Rattle.std.specs.Prelude.{◌≡◌, ◌^◌, ◌<◌};
 ghost use Rattle.text.specs.Hash.{scrambled, mixed, hash_of};
 
 // The two halves of a product, added up.
+#[tactic(auto, using(crate::proofs::Hashing::mix_laws))]
 fn scramble(x: u64) -> u64
     ensures { (result ≡ scrambled x) × (result < 2 ^ 33) }
 {
@@ -11,6 +12,7 @@ fn scramble(x: u64) -> u64
 }
 
 // The hash of what went before, and up to eight bytes more.
+#[tactic(auto, using(crate::proofs::Hashing::mix_laws))]
 fn mix(h: u64, w: u64) -> u64
     requires { h < 2 ^ 33 }
     ensures { (result ≡ mixed h w) × (result < 2 ^ 33) }
@@ -18,16 +20,16 @@ fn mix(h: u64, w: u64) -> u64
     scramble(scramble(h + w % 4294967296) + w / 4294967296)
 }
 
+// The hash of a text. Not by `chunks_exact`: up to a fifth more instructions on texts of eight bytes or more.
+#[tactic(auto, using(crate::proofs::Hashing::hash_laws))]
 pub fn hash_of(t: &[u8]) -> u64
     ensures { result ≡ hash_of t.now }
 {
     let mut h: u64 = 0;
-    let mut i = 0;
-    let mut left = t.len() / 8;
-    while 0 < left {
-        h = mix(h, word::integer(t, i, 8));
-        i += 8;
-        left -= 1;
+    let n = t.len() / 8;
+    for k in 0..n {
+        h = mix(h, word::integer(t, 8 * k, 8));
     }
+    let i = 8 * n;
     mix(h, word::integer(t, i, t.len() - i)) % 4294967296
 }

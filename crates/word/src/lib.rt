@@ -1,102 +1,64 @@
 // Integers out of bytes, lowest byte first, and the two fields of a word.
 #![tactic(auto)]
 
-ghost use Rattle.std.specs.Prelude.{◌≡◌, ◌+◌, ◌≤◌, ◌<◌, length};
+ghost use Rattle.std.specs.Prelude.{◌≡◌, ◌+◌, ◌*◌, ◌^◌, ◌≤◌, ◌<◌, length};
 ghost use Rattle.json_model.specs.Bytes.{number, low_field, high_field};
 
-// A byte as a number.
-pub fn wide(x: u8) -> u64
-    ensures { (result ≡ x) × (result < 256) }
+// One byte more: the number that k bytes make, and the next byte above it.
+#[tactic(auto, using(crate::proofs::Laws::byte_laws))]
+fn more(value: u64, x: u8, k: usize) -> u64
+    requires { (k < 8) × (value < 256 ^ k) }
+    ensures { result ≡ value + x * 256 ^ k }
 {
-    x as u64
+    value + (u64::from(x) << (8 * k))
 }
 
-// One byte more: the number that the first k + 1 bytes at a place make, from the number that the first k make.
-fn more(s: &[u8], at: usize, k: usize, value: u64) -> u64
-    requires { (k < 8) × (at + k < length s.now) × (value ≡ number s.now at k) }
-    ensures { result ≡ number s.now at (k + 1) }
-{
-    value + (wide(s[at + k]) << (8 * k))
-}
-
-// One, two, four and eight bytes at a place, written out, so that they are one load wherever this is inlined.
-fn one(s: &[u8], at: usize) -> u64
-    requires { at + 1 ≤ length s.now }
-    ensures { result ≡ number s.now at 1 }
-{
-    more(s, at, 0, 0)
-}
-
-fn two(s: &[u8], at: usize) -> u64
-    requires { at + 2 ≤ length s.now }
-    ensures { result ≡ number s.now at 2 }
-{
-    more(s, at, 1, one(s, at))
-}
-
-fn four(s: &[u8], at: usize) -> u64
-    requires { at + 4 ≤ length s.now }
-    ensures { result ≡ number s.now at 4 }
-{
-    more(s, at, 3, more(s, at, 2, two(s, at)))
-}
-
-fn eight_at(s: &[u8], at: usize) -> u64
-    requires { at + 8 ≤ length s.now }
-    ensures { result ≡ number s.now at 8 }
-{
-    let six = more(s, at, 5, more(s, at, 4, four(s, at)));
-    more(s, at, 7, more(s, at, 6, six))
-}
-
-// The number that the n bytes at a place make, for every n up to eight.
-pub fn integer(s: &[u8], at: usize, n: usize) -> u64
-    requires { (n ≤ 8) × (at + n ≤ length s.now) }
-    ensures { result ≡ number s.now at n }
-{
-    if n == 1 {
-        return one(s, at);
-    }
-    if n == 8 {
-        return eight_at(s, at);
-    }
-    if n == 4 {
-        return four(s, at);
-    }
-    if n == 2 {
-        return two(s, at);
-    }
-    any(s, at, n)
-}
-
-// The same, byte by byte.
+// The number that the n bytes at a place make, byte by byte: not by `from_le_bytes`, which takes arrays of two, four or
+// eight bytes. This is for all other widths.
+#[tactic(auto, using(crate::proofs::Laws::integer_laws))]
 fn any(s: &[u8], at: usize, n: usize) -> u64
     requires { (n ≤ 8) × (at + n ≤ length s.now) }
     ensures { result ≡ number s.now at n }
 {
-    let mut value: u64 = 0;
-    let mut i = 0;
-    while i < n {
-        value = more(s, at, i, value);
-        i += 1;
+    let mut value = 0;
+    for (k, x) in s[at..at + n].iter().enumerate() {
+        value = more(value, *x, k);
     }
     value
 }
 
+// The number that the n bytes at a place make, for every n up to eight: of one, two, four and eight it is one load.
+#[tactic(auto, using(crate::proofs::Laws::width_laws))]
+pub fn integer(s: &[u8], at: usize, n: usize) -> u64
+    requires { (n ≤ 8) × (at + n ≤ length s.now) }
+    ensures { result ≡ number s.now at n }
+{
+    match n {
+        1 => u64::from(s[at]),
+        2 => u64::from(u16::from_le_bytes([s[at], s[at + 1]])),
+        4 => u64::from(word_at(s, at)),
+        8 => eight(&s[at..]),
+        _ => any(s, at, n),
+    }
+}
+
 // The number that the first eight bytes make: a reader is handed the part of the document that begins at the number.
+// This and `word_at` are no `integer`: their widths are known, and `split` takes a u32.
+#[tactic(auto, using(crate::proofs::Laws::width_laws))]
 pub fn eight(s: &[u8]) -> u64
     requires { 8 ≤ length s.now }
     ensures { result ≡ number s.now 0 8 }
 {
-    eight_at(s, 0)
+    u64::from_le_bytes([s[0], s[1], s[2], s[3], s[4], s[5], s[6], s[7]])
 }
 
 // The word at a place: four bytes.
+#[tactic(auto, using(crate::proofs::Laws::width_laws))]
 pub fn word_at(s: &[u8], at: usize) -> u32
     requires { at + 4 ≤ length s.now }
     ensures { result ≡ number s.now at 4 }
 {
-    four(s, at) as u32
+    u32::from_le_bytes([s[at], s[at + 1], s[at + 2], s[at + 3]])
 }
 
 // A word's two fields, as numbers to count with.
@@ -107,6 +69,7 @@ pub struct Fields {
 }
 
 // The field in the lowest k bits of a word, by mask, and the field above it, by shift.
+#[tactic(auto, using(crate::proofs::Laws::masked))]
 pub fn split(w: u32, k: u32) -> Fields
     requires { k < 32 }
     ensures { (result.low ≡ low_field k w) × (result.high ≡ high_field k w) }

@@ -1,11 +1,8 @@
 use Rattle.binary_json_check.proofs.Checks.{tree_laws}
 use Rattle.binary_json_check.proofs.check_tree.Goals as goal
 
-pub returns-then-step-ne0 : goal.returns-then-step-ne0
-returns-then-step-ne0 c = search tree_laws
-
 pub returns-then-marks-words : goal.returns-then-marks-words
-returns-then-marks-words c = search tree_laws
+returns-then-marks-words c = rw c.refuse-then-marks-words.ensures (search tree_laws)
 
 pub returns : goal.returns
 returns c = search tree_laws

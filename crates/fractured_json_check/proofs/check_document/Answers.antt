@@ -1,17 +1,16 @@
-use Rattle.fractured_json_check.proofs.Checks.{document_laws}
+use mathlib.Core.Path.{ap, ◌∙◌}
+use Rattle.std.specs.Prelude.{Err}
+use Rattle.std.proofs.lemmas.Result.{err_from_is_err_and}
+use Rattle.fractured_json_check.proofs.Checks.{walk_refused, document_laws}
 use Rattle.fractured_json_check.proofs.check_document.Goals as goal
 
-pub walk_root-w-requires : goal.walk_root-w-requires
-walk_root-w-requires c = search document_laws
+pub returns-in_err-past : goal.returns-in_err-past
+returns-in_err-past c =
+    let p = err_from_is_err_and c.from_residual-in_err-past.result c.from_residual-in_err-past.ensures.1 in
+    walk_refused _ _ _ c.in_ok-read_header.ensures _ _ _ _ c.in_err-past.ensures (p.1 ∙ ap Err p.2)
 
-pub returns-then-at-doc : goal.returns-then-at-doc
-returns-then-at-doc c = search document_laws
+pub returns-then-past-doc : goal.returns-then-past-doc
+returns-then-past-doc c = search (document_laws, c.in_ok-read_header.ensures, c.in_ok-past.ensures)
 
-pub returns-in-Refused : goal.returns-in-Refused
-returns-in-Refused c = search document_laws
-
-pub returns-in-Refused-w : goal.returns-in-Refused-w
-returns-in-Refused-w c = search document_laws
-
-pub returns-else-at-doc : goal.returns-else-at-doc
-returns-else-at-doc c = search document_laws
+pub returns : goal.returns
+returns c = search (document_laws, c.in_ok-read_header.ensures, c.in_ok-past.ensures)

@@ -1,8 +1,5 @@
-use Rattle.word.proofs.Laws.{integer_laws}
+use Rattle.word.proofs.Laws.{byte_laws}
 use Rattle.word.proofs.more.Goals as goal
 
 pub overflow_add-result : goal.overflow_add-result
-overflow_add-result c = search integer_laws
-
-pub returns : goal.returns
-returns c = search integer_laws
+overflow_add-result c = search byte_laws

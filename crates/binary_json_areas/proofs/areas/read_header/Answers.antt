@@ -1,8 +1,6 @@
+-- The check finds this alone; it stands here so that `slots_unbounded` is refused at an answer.
 use Rattle.binary_json_areas.proofs.Headers.{header_laws}
 use Rattle.binary_json_areas.proofs.areas.read_header.Goals as goal
 
-pub returns-then-doc-index : goal.returns-then-doc-index
-returns-then-doc-index c = search header_laws
-
-pub returns-else-doc-index : goal.returns-else-doc-index
-returns-else-doc-index c = search header_laws
+pub invariant_of-result : goal.invariant_of-result
+invariant_of-result c = search header_laws

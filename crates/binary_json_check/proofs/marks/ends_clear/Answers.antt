@@ -2,10 +2,4 @@ use Rattle.binary_json_check.proofs.MarkLaws.{ends_laws}
 use Rattle.binary_json_check.proofs.marks.ends_clear.Goals as goal
 
 pub returns-then-first-ne0 : goal.returns-then-first-ne0
-returns-then-first-ne0 c = search ends_laws
-
-pub returns-then-last-ne0 : goal.returns-then-last-ne0
-returns-then-last-ne0 c = search ends_laws
-
-pub returns : goal.returns
-returns c = search ends_laws
+returns-then-first-ne0 g c = search ends_laws

@@ -1,12 +1,9 @@
 use mathlib.Core.Path.{◌≡◌}
-use Prim.Native.Nat.{◌+◌}
+use Prim.Native.Nat.{◌-◌, ◌*◌}
+use lib.ListN.{length}
 use Rattle.binary_json_rules.specs.Marks.{unmarked}
 use Rattle.binary_json_check.proofs.marks.first_unmarked.Given as goal
 
-abbrev pub invariant-loop-left : goal.invariant-loop-left
-invariant-loop-left l =
-    (l.at + l.left ≡ l.n) × (unmarked l.marks l.at l.left ≡ unmarked l.marks 0 l.n)
-
-abbrev pub decreases-loop-left : goal.decreases-loop-left
-decreases-loop-left l =
-    l.left
+abbrev pub invariant-loop-i : goal.invariant-loop-i
+invariant-loop-i l =
+    unmarked l.words (8 * l.i) (length l.words - 8 * l.i) ≡ unmarked l.words 0 (length l.words)

@@ -1,12 +1,9 @@
 use mathlib.Core.Path.{◌≡◌}
-use Prim.Native.Nat.{◌+◌}
+use Prim.Native.Nat.{◌-◌, ◌*◌}
+use lib.ListN.{length}
 use Rattle.binary_json_rules.specs.Marks.{clear}
 use Rattle.binary_json_check.proofs.marks.many_clear.Given as goal
 
-abbrev pub invariant-loop-left : goal.invariant-loop-left
-invariant-loop-left l =
-    (l.at + l.left ≡ l.k + l.n) × (clear l.marks l.at l.left ≡ clear l.marks l.k l.n)
-
-abbrev pub decreases-loop-left : goal.decreases-loop-left
-decreases-loop-left l =
-    l.left
+abbrev pub invariant-loop-i : goal.invariant-loop-i
+invariant-loop-i l =
+    clear l.body (8 * l.i) (length l.body - 8 * l.i) ≡ clear l.body 0 (length l.body)

@@ -9,8 +9,5 @@ decreases-subtree l = 2 * l.below + 1
 abbrev pub decreases-walk_container : goal.decreases-walk_container
 decreases-walk_container l = 2 * l.levels
 
-abbrev pub invariant-walk_container-loop-left : goal.invariant-walk_container-loop-left
-invariant-walk_container-loop-left l = Entered l.doc l.a l.levels l.o l.first l.count l.initial.marks l.left l.at l.marks
-
-abbrev pub decreases-walk_container-loop-left : goal.decreases-walk_container-loop-left
-decreases-walk_container-loop-left l = l.left
+abbrev pub invariant-walk_container-loop-k : goal.invariant-walk_container-loop-k
+invariant-walk_container-loop-k l = Entered l.d.bytes.now l.d.areas l.levels l.o l.first l.count l.initial.marks l.k l.marks

@@ -1,17 +1,11 @@
-use Rattle.binary_json_lookup.proofs.Searches.{keys_laws}
+use Rattle.std.proofs.Common.{rules}
+use Rattle.binary_json_rules.specs.Areas.{slot}
+use Rattle.binary_json_rules.specs.Lookup.{key_item}
+use Rattle.binary_json_lookup.proofs.Searches.{key_compared}
 use Rattle.binary_json_lookup.proofs.lookup.find_key.Goals as goal
 
-pub loop-low-init : goal.loop-low-init
-loop-low-init c = search keys_laws
-
-pub returns-then-item-v : goal.returns-then-item-v
-returns-then-item-v c = search keys_laws
-
-pub loop-low-preserved-then-item-v-2 : goal.loop-low-preserved-then-item-v-2
-loop-low-preserved-then-item-v-2 c = search keys_laws
-
-pub loop-low-preserved : goal.loop-low-preserved
-loop-low-preserved c = search keys_laws
-
 pub returns : goal.returns
-returns c = search keys_laws
+returns c =
+    let items = key_item c.args.o.now.document.bytes.now c.args.o.now.place (slot c.args.o.now.document.bytes.now c.args.k) in
+    let halved = c.halve.ensures.halved items (record { says = λ k r b p. search (key_compared, rules) }) in
+    search rules

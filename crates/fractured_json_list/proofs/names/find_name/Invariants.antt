@@ -7,8 +7,4 @@ use Rattle.fractured_json_list.proofs.names.find_name.Given as goal
 
 abbrev pub invariant-loop-j : goal.invariant-loop-j
 invariant-loop-j l =
-    (l.at ≤ 3 + l.j * 65_537) × (l.j ≤ l.n) × (named_from l.list l.x (l.n - l.j) l.at l.j ≡ named_from l.list l.x (count_in l.list) 3 0)
-
-abbrev pub decreases-loop-j : goal.decreases-loop-j
-decreases-loop-j l =
-    l.n - l.j
+    (l.at ≤ 3 + l.j * 65_537) × (named_from l.list l.x (l.j-end - l.j) l.at l.j ≡ named_from l.list l.x (count_in l.list) 3 0)

@@ -1,7 +1,4 @@
 -- `pass_names`: what the names say from name j on is what they say from the first one on.
-use mathlib.Core.Path.{◌≡◌}
-use Prim.Native.Nat.{◌-◌, ◌≤◌}
-use lib.ListN.{length}
 use Rattle.json_model.specs.Reading.{ask}
 use Rattle.fractured_json_list.specs.Passing.{names_in}
 use Rattle.fractured_json_list.proofs.PassLaws.{Going}
@@ -9,11 +6,4 @@ use Rattle.fractured_json_list.proofs.walk.pass_names.Given as goal
 
 abbrev pub invariant-loop-j : goal.invariant-loop-j
 invariant-loop-j l =
-    (length l.words ≡ length l.initial.words)
-    × (length l.links ≡ length l.initial.links)
-    × (l.j ≤ l.n)
-    × Going l.list l.n l.at l.j l.words l.links (ask (names_in l.list l.n 3 0 l.initial.words l.initial.links))
-
-abbrev pub decreases-loop-j : goal.decreases-loop-j
-decreases-loop-j l =
-    l.n - l.j
+    Going l.list l.n l.at l.j l.words l.links (ask (names_in l.list l.n 3 0 l.initial.words l.initial.links))

@@ -1,5 +1,0 @@
-use Rattle.claims.proofs.FracturedJson.{fractured_laws}
-use Rattle.claims.proofs.check_list.Goals as goal
-
-pub returns : goal.returns
-returns c = search fractured_laws

@@ -1,5 +1,0 @@
-use Rattle.encoding.proofs.WordLaws.{word_laws}
-use Rattle.encoding.proofs.words.refuse.Goals as goal
-
-pub returns : goal.returns
-returns c = search word_laws

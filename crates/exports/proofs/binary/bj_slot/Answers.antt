@@ -1,8 +1,0 @@
-use Rattle.exports.proofs.Handing.{handing_laws}
-use Rattle.exports.proofs.binary.bj_slot.Goals as goal
-
-pub returns-then-out-lt2 : goal.returns-then-out-lt2
-returns-then-out-lt2 c = search handing_laws
-
-pub returns : goal.returns
-returns c = search handing_laws

@@ -1,5 +1,0 @@
-use Rattle.fractured_json_list.proofs.CheckLaws.{room_laws}
-use Rattle.fractured_json_list.proofs.room.pass_short.Goals as goal
-
-pub returns : goal.returns
-returns c = search room_laws

@@ -1,5 +1,0 @@
-use Rattle.text.proofs.Swapped.{swap_laws}
-use Rattle.text.proofs.swap.two.Goals as goal
-
-pub returns : goal.returns
-returns c = search swap_laws
