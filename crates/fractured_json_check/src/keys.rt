@@ -44,15 +44,15 @@ impl Document<'_> {
     // An immediate key, whose text of `n.number` bytes starts at `n.past`.
     #[tactic(auto, using(crate::proofs::CheckedKeys::new_laws))]
     fn new_key(
-        &self,
+        self,
         keys: &mut [u32],
         links: &mut [u16],
         count: &mut usize,
         at: usize,
         n: Numeral,
     ) -> Result<usize, Refusal>
-        requires { n.past ≤ length self.now.bytes.now }
-        ensures { out result count.new keys.new links.new ≡ new_key_in self.now.bytes.now at (numeral n.number n.past) (table count.old keys.old links.old) }
+        requires { n.past ≤ length self.bytes.now }
+        ensures { out result count.new keys.new links.new ≡ new_key_in self.entry.bytes.now at (numeral n.number n.past) (table count.old keys.old links.old) }
     {
         let doc = self.bytes;
         if doc.len() - n.past < n.number {
@@ -67,7 +67,7 @@ impl Document<'_> {
     // A key by its kind, once the number that it carries has been read.
     #[tactic(auto, using(crate::proofs::CheckedKeys::numbered_laws))]
     fn numbered(
-        &self,
+        self,
         keys: &mut [u32],
         links: &mut [u16],
         count: &mut usize,
@@ -75,8 +75,8 @@ impl Document<'_> {
         kind: KeyKind,
         n: Numeral,
     ) -> Result<usize, Refusal>
-        requires { n.past ≤ length self.now.bytes.now }
-        ensures { out result count.new keys.new links.new ≡ numbered_by (new_key_in self.now.bytes.now at) (old_key_in at) (listed_key self.now.names at) kind (numeral n.number n.past) (table count.old keys.old links.old) }
+        requires { n.past ≤ length self.bytes.now }
+        ensures { out result count.new keys.new links.new ≡ numbered_by (new_key_in self.entry.bytes.now at) (old_key_in at) (listed_key self.entry.names at) kind (numeral n.number n.past) (table count.old keys.old links.old) }
     {
         match kind {
             KeyKind::Immediate => self.new_key(keys, links, count, at, n),
@@ -89,13 +89,13 @@ impl Document<'_> {
     // The key at a place.
     #[tactic(auto, using(crate::proofs::CheckedKeys::check_key_laws))]
     pub(crate) fn check_key(
-        &self,
+        self,
         keys: &mut [u32],
         links: &mut [u16],
         count: &mut usize,
         at: usize,
     ) -> Result<usize, Refusal>
-        ensures { out result count.new keys.new links.new ≡ key_in self.now.bytes.now self.now.names at (table count.old keys.old links.old) }
+        ensures { out result count.new keys.new links.new ≡ key_in self.entry.bytes.now self.entry.names at (table count.old keys.old links.old) }
     {
         let doc = self.bytes;
         let Some(KeyHead { kind, number }) = key_head(byte_at(doc, at)?) else {
@@ -109,8 +109,8 @@ impl Document<'_> {
     // keys, told by a branch of their own and not by an answer in memory (docs/DECISIONS.md, "Answers that meet in
     // memory").
     #[tactic(auto, using(crate::proofs::CheckedKeys::known_laws))]
-    pub(crate) fn is_known(&self, count: usize, at: usize) -> bool
-        ensures { Known self.now.bytes.now self.now.names count at result }
+    pub(crate) fn is_known(self, count: usize, at: usize) -> bool
+        ensures { Known self.entry.bytes.now self.entry.names count at result }
     {
         let Ok(b) = byte_at(self.bytes, at) else {
             return false;

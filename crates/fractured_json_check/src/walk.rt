@@ -1,5 +1,6 @@
 // The check's walk over a value: depth by calls, with the levels left falling, entries by a loop. Each method answers
-// where what it reads ends, and leaves the number of keys passed in `count`.
+// where what it reads ends, and leaves the number of keys passed in `count`. The document is passed by value: lent, its
+// place and length would be loaded again for each value.
 //
 // The lent table, the links and the count are no struct with methods: each contract would have to say besides that it
 // holds the same two loans as before.
@@ -22,14 +23,14 @@ impl Document<'_> {
     #[cycle(contents_entry_value)]
     #[tactic(auto, using(crate::proofs::CheckWalk::value_laws))]
     fn value(
-        &self,
+        self,
         keys: &mut [u32],
         links: &mut [u16],
         count: &mut usize,
         at: usize,
         levels: usize,
     ) -> Result<usize, Refusal>
-        ensures { out result count.new keys.new links.new ≡ value_by (key_in self.now.bytes.now self.now.names) levels self.now.bytes.now at (table count.old keys.old links.old) }
+        ensures { out result count.new keys.new links.new ≡ value_by (key_in self.entry.bytes.now self.entry.names) levels self.entry.bytes.now at (table count.old keys.old links.old) }
     {
         match open_at(self.bytes, at)? {
             Open::Leaf(past) => Ok(past),
@@ -51,7 +52,7 @@ impl Document<'_> {
     #[cycle(contents_entry_value)]
     #[tactic(auto, using(crate::proofs::CheckWalk::contents_laws))]
     pub(crate) fn contents(
-        &self,
+        self,
         keys: &mut [u32],
         links: &mut [u16],
         count: &mut usize,
@@ -60,7 +61,7 @@ impl Document<'_> {
         object: bool,
         below: usize,
     ) -> Result<usize, Refusal>
-        ensures { out result count.new keys.new links.new ≡ in_turn (entry_by object (key_in self.now.bytes.now self.now.names) (value_by (key_in self.now.bytes.now self.now.names) below self.now.bytes.now)) n first (table count.old keys.old links.old) }
+        ensures { out result count.new keys.new links.new ≡ in_turn (entry_by object (key_in self.entry.bytes.now self.entry.names) (value_by (key_in self.entry.bytes.now self.entry.names) below self.entry.bytes.now)) n first (table count.old keys.old links.old) }
     {
         let mut at = first;
         for _ in 0..n {
@@ -73,7 +74,7 @@ impl Document<'_> {
     #[cycle(contents_entry_value)]
     #[tactic(auto, using(crate::proofs::CheckWalk::entry_laws))]
     fn entry(
-        &self,
+        self,
         keys: &mut [u32],
         links: &mut [u16],
         count: &mut usize,
@@ -81,7 +82,7 @@ impl Document<'_> {
         object: bool,
         below: usize,
     ) -> Result<usize, Refusal>
-        ensures { out result count.new keys.new links.new ≡ entry_by object (key_in self.now.bytes.now self.now.names) (value_by (key_in self.now.bytes.now self.now.names) below self.now.bytes.now) at (table count.old keys.old links.old) }
+        ensures { out result count.new keys.new links.new ≡ entry_by object (key_in self.entry.bytes.now self.entry.names) (value_by (key_in self.entry.bytes.now self.entry.names) below self.entry.bytes.now) at (table count.old keys.old links.old) }
     {
         let start = self.keyed(keys, links, count, at, object)?;
         self.value(keys, links, count, start, below)
@@ -90,14 +91,14 @@ impl Document<'_> {
     // Where the value of an entry starts: in an object after its key.
     #[tactic(auto, using(crate::proofs::CheckWalk::keyed_laws))]
     fn keyed(
-        &self,
+        self,
         keys: &mut [u32],
         links: &mut [u16],
         count: &mut usize,
         at: usize,
         object: bool,
     ) -> Result<usize, Refusal>
-        ensures { out result count.new keys.new links.new ≡ keyed_in object self.now.bytes.now self.now.names at (table count.old keys.old links.old) }
+        ensures { out result count.new keys.new links.new ≡ keyed_in object self.entry.bytes.now self.entry.names at (table count.old keys.old links.old) }
     {
         if object {
             if self.is_known(*count, at) {

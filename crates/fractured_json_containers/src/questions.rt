@@ -13,7 +13,7 @@ use crate::lookup::Sought;
 use crate::skip::{INNER, KeyText, Lent};
 use fractured_json_answers::{Key, Member};
 use fractured_json_list::names::{find_name, name_of};
-use fractured_json_scalars::enter::{open_question, wanted};
+use fractured_json_scalars::enter::{open_question, wanted_type};
 use fractured_json_values::texts::text_of;
 use fractured_json_values::types::ValueType;
 use fractured_json_values::values::Numeral;
@@ -37,7 +37,7 @@ impl Lent<'_> {
     pub fn element_here(&self, at: usize, i: usize) -> Result<usize, Refusal>
         ensures { told_place result ≡ ask (element_here self.now.doc.now self.now.list.now self.now.keys.now self.now.count at i) }
     {
-        let n = wanted(self.doc, at, ValueType::Array)?;
+        let n = wanted_type(self.doc, at, ValueType::Array)?;
         self.element_from(at, i, n)
     }
 
@@ -59,7 +59,7 @@ impl Lent<'_> {
     pub fn member_here(&self, at: usize, j: usize) -> Result<Member, Refusal>
         ensures { told_member result ≡ ask (member_here self.now.doc.now self.now.list.now self.now.keys.now self.now.count at j) }
     {
-        let n = wanted(self.doc, at, ValueType::Object)?;
+        let n = wanted_type(self.doc, at, ValueType::Object)?;
         self.member_from(at, j, n)
     }
 
@@ -70,7 +70,7 @@ impl Lent<'_> {
         requires { ask (key_list self.now.list.now) ≡ answers tt }
         ensures { told_found result ≡ ask (first_here self.now.doc.now self.now.list.now self.now.keys.now self.now.count at x.now) }
     {
-        let n = wanted(self.doc, at, ValueType::Object)?;
+        let n = wanted_type(self.doc, at, ValueType::Object)?;
         let sought = Sought {
             lent: *self,
             text: x,

@@ -1,9 +1,9 @@
 -- What every question reads first, one law for each way through `open_question` and `wanted`; and what goes on after it.
-use mathlib.Core.Path.{◌≡◌, refl, sym, ◌∙◌}
-use mathlib.Core.Bool.{true, false}
+use mathlib.Core.Path.{◌≡◌, sym, ◌∙◌}
 use mathlib.Core.List.{List}
 use Prim.Native.Nat.{ℕ, ◌≤◌, ◌<◌}
 use borrow.Author.Rules.{rules}
+use borrow.Author.Tests.{eq-eqb, ne_eqb}
 use lib.Dec.{le→leb}
 use lib.ListN.{length}
 use Rattle.json_model.specs.Choose.{choose}
@@ -18,10 +18,8 @@ use Rattle.fractured_json_rules.specs.Verdict as Rules
 use Rattle.fractured_json_rules.specs.Questions.{opening, Wanted, wanted_here}
 use Rattle.fractured_json_values.specs.Heads.{head_of}
 use Rattle.fractured_json_values.specs.Opened.{sized_at, ReadsNumeral}
-use Rattle.fractured_json_scalars.specs.Asked.{is_type, wanted_head, wanted_type}
+use Rattle.fractured_json_scalars.specs.Asked.{place_of, wanted_head, wanted_in, wanted_type}
 use Rattle.fractured_json_values.specs.declared.types.Head.{Head}
-use Rattle.fractured_json_values.specs.declared.types.ValueType.{ValueType}
-use Rattle.fractured_json_values.specs.declared.types.ValueType.TheVariants.{Null, False, True, Signed, Unsigned, Tiny, Binary32, Binary64, String, Object, Array}
 use Rattle.fractured_json_values.specs.declared.values.Numeral.{Numeral}
 use Rattle.fractured_json_values.proofs.Opening.{head_width}
 use Rattle.fractured_json_values.proofs.Walks.{then_same}
@@ -61,57 +59,30 @@ module _ {A : Type 0} (doc list : List ℕ) (at : ℕ) (rest : Reading (Unit {0}
 
 -- ---- a length, by the type that is wanted
 
-is_same : (a b : ValueType) → a ≡ b → is_type a b ≡ true
-is_same Null b e = rw (sym e)
-is_same False b e = rw (sym e)
-is_same True b e = rw (sym e)
-is_same Signed b e = rw (sym e)
-is_same Unsigned b e = rw (sym e)
-is_same Tiny b e = rw (sym e)
-is_same Binary32 b e = rw (sym e)
-is_same Binary64 b e = rw (sym e)
-is_same String b e = rw (sym e)
-is_same Object b e = rw (sym e)
-is_same Array b e = rw (sym e)
-
-is_other : (a b : ValueType) → (a ≡ b → ⊥) → is_type a b ≡ false
-is_other Null Null f = absurd (f refl)
-is_other False False f = absurd (f refl)
-is_other True True f = absurd (f refl)
-is_other Signed Signed f = absurd (f refl)
-is_other Unsigned Unsigned f = absurd (f refl)
-is_other Tiny Tiny f = absurd (f refl)
-is_other Binary32 Binary32 f = absurd (f refl)
-is_other Binary64 Binary64 f = absurd (f refl)
-is_other String String f = absurd (f refl)
-is_other Object Object f = absurd (f refl)
-is_other Array Array f = absurd (f refl)
-is_other _ _ f = refl
-
-module _ (doc : List ℕ) (at : ℕ) (want : ValueType) where
-  pub wanted_refused : (r : Refusal) → ask (byte_at doc at at) ≡ refuses r.number r.place → ask (wanted_type doc at want) ≡ refuses r.number r.place
-  unfolding wanted_type
+module _ (doc : List ℕ) (at want : ℕ) where
+  pub wanted_refused : (r : Refusal) → ask (byte_at doc at at) ≡ refuses r.number r.place → ask (wanted_in doc at want) ≡ refuses r.number r.place
+  unfolding wanted_in
   wanted_refused r q = stops _ _ tt q
 
   module _ (b : ℕ) (q : ask (byte_at doc at at) ≡ answers b) where
-    by_head : (o : Option Head) → o ≡ head_of (form_of b) → ask (wanted_type doc at want) ≡ ask (wanted_head doc at want o)
-    unfolding wanted_type
+    by_head : (o : Option Head) → o ≡ head_of (form_of b) → ask (wanted_in doc at want) ≡ ask (wanted_head doc at want o)
+    unfolding wanted_in
     by_head o os = then _ _ tt q ∙ rw os
 
-    pub wanted_reserved : None ≡ head_of (form_of b) → ask (wanted_type doc at want) ≡ refuses 36 at
+    pub wanted_reserved : None ≡ head_of (form_of b) → ask (wanted_in doc at want) ≡ refuses 36 at
     unfolding wanted_head
     wanted_reserved os = by_head None os
 
     module _ (h : Head) (hs : Some h ≡ head_of (form_of b)) where
-      pub wanted_sized : (c : Result Numeral Refusal) → h.kind ≡ want → ReadsNumeral (length doc) (ask (sized_at doc at h.width h.tiny)) c → ReadsNumeral (length doc) (ask (wanted_type doc at want)) c
+      pub wanted_sized : (c : Result Numeral Refusal) → place_of h.kind ≡ want → ReadsNumeral (length doc) (ask (sized_at doc at h.width h.tiny)) c → ReadsNumeral (length doc) (ask (wanted_in doc at want)) c
       unfolding wanted_head choose
       wanted_sized c k s =
-          let e : ask (wanted_type doc at want) ≡ ask (sized_at doc at h.width h.tiny) = by_head _ hs ∙ rw (is_same h.kind want k) in
+          let e : ask (wanted_in doc at want) ≡ ask (sized_at doc at h.width h.tiny) = by_head _ hs ∙ rw (eq-eqb (place_of h.kind) want k) in
           rw e s
 
-      pub wanted_other : (h.kind ≡ want → ⊥) → ask (wanted_type doc at want) ≡ refuses 21 at
+      pub wanted_other : (place_of h.kind ≡ want → ⊥) → ask (wanted_in doc at want) ≡ refuses 21 at
       unfolding wanted_head choose
-      wanted_other k = by_head _ hs ∙ rw (is_other h.kind want k)
+      wanted_other k = by_head _ hs ∙ rw (ne_eqb (place_of h.kind) want k)
 
 pub ruleset wanted_laws = (head_width, wanted_refused, wanted_reserved, wanted_sized, wanted_other, rules)
 
@@ -119,7 +90,7 @@ pub ruleset wanted_laws = (head_width, wanted_refused, wanted_reserved, wanted_s
 
 module _ {A : Type 0} (doc : List ℕ) (at : ℕ) (want : Wanted) (rest : Rules.Numeral → Reading (Unit {0}) A) where
   wanted_is : ask (wanted_here doc at want) ≡ ask (wanted_type doc at (type_of want))
-  unfolding wanted_here wanted_type
+  unfolding wanted_here wanted_in
   wanted_is = then_same _ _ _ tt (λ b s. wanted_form doc at want (form_of b) s)
 
   pub length_refused : (r : Refusal) → ask (wanted_type doc at (type_of want)) ≡ refuses r.number r.place → ask (wanted_here doc at want >>= rest) ≡ refuses r.number r.place

@@ -13,7 +13,7 @@ use Rattle.fractured_json_values.specs.Heads.{head_of}
 use Rattle.fractured_json_values.specs.Opened.{sized_at, finite_type}
 use Rattle.fractured_json_values.specs.declared.types.ValueType.{ValueType}
 use Rattle.fractured_json_values.specs.declared.types.ValueType.TheVariants.{String, Object, Array}
-use Rattle.fractured_json_scalars.specs.Asked.{wanted_head, kind_type, kind_head, bits_of, number_type, number_sized, number_head}
+use Rattle.fractured_json_scalars.specs.Asked.{place_of, wanted_head, kind_type, kind_head, bits_of, number_type, number_sized, number_head}
 use Rattle.fractured_json_values.proofs.Walks.{float_of, Sound, payload_sized, length_sized}
 
 -- a tiny int's byte is its place in its range, from BE on
@@ -29,7 +29,7 @@ type_of an_array = Array
 module _ {S : Type 0} (doc : List ℕ) (c : ℕ) where
   -- ---- the length of a string, an object or an array
 
-  pub wanted_form : (want : Wanted) (f : Form) (s : S) → wanted_by doc c f want s ≡ wanted_head doc c (type_of want) (head_of f) s
+  pub wanted_form : (want : Wanted) (f : Form) (s : S) → wanted_by doc c f want s ≡ wanted_head doc c (place_of (type_of want)) (head_of f) s
   unfolding wanted_by wanted_head choose
   wanted_form a_string f_null s = refl
   wanted_form a_string (f_bool false) s = refl

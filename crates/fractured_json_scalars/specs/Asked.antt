@@ -1,6 +1,6 @@
 -- The code's own way through the rules of the type byte, of lengths, of kinds and of numbers: by what the constant
 -- tables say. proofs/ shows that each is the rules'.
-use Rattle.std.specs.Prelude.{Bool, true, false, ℕ, ◌+◌, ◌^◌, ◌<◌, List, Option, Some, None}
+use Rattle.std.specs.Prelude.{true, ℕ, eqb, ◌+◌, ◌^◌, ◌<◌, List, Option, Some, None}
 use Rattle.json_model.specs.Choose.{choose}
 use Rattle.json_model.specs.Reading.{Reading, answer, refuse, ◌>>=◌, need}
 use Rattle.fractured_json_rules.specs.ByteTables.{form_of}
@@ -14,28 +14,32 @@ use Rattle.fractured_json_values.specs.declared.types.ValueType.TheVariants.{Nul
 
 -- ---- the length or payload of a value of the type that is wanted, and where what it measures starts; 21 of any other type
 
-abbrev pub is_type : ValueType → ValueType → Bool
-is_type Null Null = true
-is_type False False = true
-is_type True True = true
-is_type Signed Signed = true
-is_type Unsigned Unsigned = true
-is_type Tiny Tiny = true
-is_type Binary32 Binary32 = true
-is_type Binary64 Binary64 = true
-is_type String String = true
-is_type Object Object = true
-is_type Array Array = true
-is_type _ _ = false
+-- the place of a type in the order of `ValueType`
+abbrev pub place_of : ValueType → ℕ
+place_of Null = 0
+place_of False = 1
+place_of True = 2
+place_of Signed = 3
+place_of Unsigned = 4
+place_of Tiny = 5
+place_of Binary32 = 6
+place_of Binary64 = 7
+place_of String = 8
+place_of Object = 9
+place_of Array = 10
 
-unfoldable pub wanted_head : {S : Type 0} → List ℕ → ℕ → ValueType → Option Head → Reading S Numeral
+unfoldable pub wanted_head : {S : Type 0} → List ℕ → ℕ → ℕ → Option Head → Reading S Numeral
 wanted_head doc c want None = refuse 36 c
-wanted_head doc c want (Some h) = choose (is_type h.kind want) (sized_at doc c h.width h.tiny) (refuse 21 c)
+wanted_head doc c want (Some h) = choose (eqb (place_of h.kind) want) (sized_at doc c h.width h.tiny) (refuse 21 c)
 
-unfoldable pub wanted_type : {S : Type 0} → List ℕ → ℕ → ValueType → Reading S Numeral
-wanted_type doc c want = do
+-- by its place in that order; no value is of a type at another place
+unfoldable pub wanted_in : {S : Type 0} → List ℕ → ℕ → ℕ → Reading S Numeral
+wanted_in doc c want = do
   b ← byte_at doc c c
   wanted_head doc c want (head_of (form_of b))
+
+abbrev pub wanted_type : {S : Type 0} → List ℕ → ℕ → ValueType → Reading S Numeral
+wanted_type doc c want = wanted_in doc c (place_of want)
 
 -- ---- kinds
 

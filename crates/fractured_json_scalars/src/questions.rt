@@ -6,7 +6,7 @@ ghost use Rattle.json_model.specs.Reading.{ask};
 ghost use Rattle.fractured_json_rules.specs.Questions.{kind_here, kind as kind_at, number_here, number_at, string_here, string_at, string_bytes};
 ghost use Rattle.fractured_json_answers.specs.Told.{told_kind, told_number, told_text};
 
-use crate::enter::{open_question, wanted};
+use crate::enter::{open_question, wanted_type};
 use crate::kinds::kind_of;
 use crate::numbers::number_of;
 use fractured_json_answers::{Kind, Number};
@@ -57,7 +57,7 @@ pub fn string_here(doc: &[u8], at: usize) -> Result<Span, Refusal>
     let Numeral {
         number: len,
         past: place,
-    } = wanted(doc, at, ValueType::String)?;
+    } = wanted_type(doc, at, ValueType::String)?;
     if doc.len() - place < len {
         return refuse(35, at);
     }

@@ -11,10 +11,11 @@ use lib.Dec.{T, eqb, le→leb, eqb→eq}
 use lib.ListN.{length, get_or}
 use mir.Syntax.{w8, w64}
 use mir.Val.{Fits}
+use Rattle.std.proofs.lemmas.Bool.{true≢false}
 use Rattle.json_model.specs.Bytes.{Bytes, number}
 use Rattle.json_model.specs.Choose.{choose}
 use Rattle.json_model.specs.Number.{finite}
-use Rattle.json_model.specs.Reading.{ask, answers, refuses}
+use Rattle.json_model.specs.Reading.{ask, answers, refuses, ◌>>=◌, follow, need}
 use Rattle.json_model.specs.declared.Refusal.{Refusal}
 use Rattle.json_model.proofs.Bytes.{number_small}
 use Rattle.json_model.proofs.Reading.{over, then, stops, pass, fail}
@@ -22,11 +23,11 @@ use Rattle.std.specs.Prelude.{Option, Some, None, Result}
 use Rattle.fractured_json_rules.specs.ByteTables.{Width, one, two, four, eight, bytes, Len, tiny, after, Form, f_null, f_bool, f_int, f_float, f_tiny, f_string, f_object, f_array, f_reserved, form_of}
 use Rattle.fractured_json_rules.specs.Verdict.{byte_at, payload, numeral}
 use Rattle.fractured_json_theorems.proofs.Readers.{byte_is, byte_past, payload_is}
-use Rattle.fractured_json_values.specs.Heads.{head, width_in, head_of}
+use Rattle.fractured_json_values.specs.Heads.{has_length, head, width_in, head_of}
 use Rattle.fractured_json_values.specs.Opened.{sized_at, leaf, inside, finite_type, finite_at, FloatInside, FloatWidth, LengthWidth, open_scalar, open_type, open_head, opened_at, told_open}
 use Rattle.fractured_json_values.specs.declared.types.Head.{Head}
 use Rattle.fractured_json_values.specs.declared.types.ValueType.{ValueType}
-use Rattle.fractured_json_values.specs.declared.types.ValueType.TheVariants.{Binary32, Binary64, String, Object, Array}
+use Rattle.fractured_json_values.specs.declared.types.ValueType.TheVariants.{Null, False, True, Signed, Unsigned, Tiny, Binary32, Binary64, String, Object, Array}
 use Rattle.fractured_json_values.specs.declared.values.Open.{Open}
 use Rattle.fractured_json_values.proofs.Forms.{every_form}
 
@@ -220,23 +221,33 @@ module _ (len at n past : ℕ) where
   unfolding open_type
   object_opens = refl
 
-  pub array_opens : answers (inside false n past) ≡ ask (open_type len at Array n past)
+  pub array_opens : (kind : ValueType) → (l : Bool) → l ≡ has_length kind → l ≡ true → (kind ≡ String → ⊥) → (kind ≡ Object → ⊥) → answers (inside false n past) ≡ ask (open_type len at kind n past)
   unfolding open_type
-  array_opens = refl
+  array_opens String l e t f g = absurd (f refl)
+  array_opens Object l e t f g = absurd (g refl)
+  array_opens Array l e t f g = refl
+  array_opens Null l e t f g = absurd (true≢false (sym t ∙ e))
+  array_opens False l e t f g = absurd (true≢false (sym t ∙ e))
+  array_opens True l e t f g = absurd (true≢false (sym t ∙ e))
+  array_opens Signed l e t f g = absurd (true≢false (sym t ∙ e))
+  array_opens Unsigned l e t f g = absurd (true≢false (sym t ∙ e))
+  array_opens Tiny l e t f g = absurd (true≢false (sym t ∙ e))
+  array_opens Binary32 l e t f g = absurd (true≢false (sym t ∙ e))
+  array_opens Binary64 l e t f g = absurd (true≢false (sym t ∙ e))
 
-  scalar_type : (kind : ValueType) → (kind ≡ String → ⊥) → (kind ≡ Object → ⊥) → (kind ≡ Array → ⊥) → ask (open_scalar at kind n past) ≡ ask (open_type len at kind n past)
+  scalar_type : (kind : ValueType) → has_length kind ≡ false → ask (open_scalar at kind n past) ≡ ask (open_type len at kind n past)
   unfolding open_type
-  scalar_type String f g h = absurd (f refl)
-  scalar_type Object f g h = absurd (g refl)
-  scalar_type Array f g h = absurd (h refl)
-  scalar_type _ f g h = refl
+  scalar_type String f = absurd (true≢false f)
+  scalar_type Object f = absurd (true≢false f)
+  scalar_type Array f = absurd (true≢false f)
+  scalar_type _ f = refl
 
-  module _ (kind : ValueType) (f : kind ≡ String → ⊥) (g : kind ≡ Object → ⊥) (h : kind ≡ Array → ⊥) where
+  module _ (kind : ValueType) (l : Bool) (e : l ≡ has_length kind) (f : l ≡ false) where
     pub number_passes : (b : Bool) → b ≡ finite_type kind n → b ≡ true → answers (leaf past) ≡ ask (open_type len at kind n past)
-    number_passes b e t = scalar_passes at n past kind b e t ∙ scalar_type kind f g h
+    number_passes b q t = scalar_passes at n past kind b q t ∙ scalar_type kind (sym e ∙ f)
 
     pub number_refused : (b : Bool) → b ≡ finite_type kind n → b ≡ false → refuses 43 at ≡ ask (open_type len at kind n past)
-    number_refused b e t = scalar_refused at n past kind b e t ∙ scalar_type kind f g h
+    number_refused b q t = scalar_refused at n past kind b q t ∙ scalar_type kind (sym e ∙ f)
 
 pub ruleset type_laws = (string_refused, string_passes, object_opens, array_opens, number_passes, number_refused, rules)
 
@@ -247,9 +258,9 @@ no_payload Binary32 n w = absurd (omega arith)
 no_payload Binary64 n w = absurd (omega arith)
 no_payload _ n w = refl
 
-pub tiny_leaf : (len at n : ℕ) (kind : ValueType) → FloatWidth kind 0 → (kind ≡ String → ⊥) → (kind ≡ Object → ⊥) → (kind ≡ Array → ⊥)
+pub tiny_leaf : (len at n : ℕ) (kind : ValueType) → FloatWidth kind 0 → (l : Bool) → l ≡ has_length kind → l ≡ false
     → answers (leaf (at + 1)) ≡ ask (open_type len at kind n (at + 1))
-tiny_leaf len at n kind w f g h = number_passes len at n (at + 1) kind f g h true (no_payload kind n w) refl
+tiny_leaf len at n kind w l e f = number_passes len at n (at + 1) kind l e f true (no_payload kind n w) refl
 
 pub ruleset tiny_open_laws = (tiny_leaf, rules)
 
@@ -275,12 +286,7 @@ module _ (doc : List ℕ) (at width : ℕ) where
     pub number_infinite : b ≡ false → refuses 43 at ≡ ask (open_scalar at kind (number doc (at + 1) width) (at + 1 + width))
     number_infinite t = scalar_refused at _ _ kind b (e ∙ finite_is kind w) t
 
-  pub binary64_finite : FloatWidth Binary64 width → (b : Bool) → b ≡ finite_at doc at Binary64 → b ≡ true
-      → answers (leaf (at + 1 + 8)) ≡ ask (open_scalar at Binary64 (number doc (at + 1) width) (at + 1 + width))
-  unfolding FloatWidth
-  binary64_finite w b e t = rw (sym w) (number_finite Binary64 w b e t)
-
-pub ruleset scalar_laws = (float_inside, number_finite, binary64_finite, number_infinite, rules)
+pub ruleset scalar_laws = (float_inside, number_finite, number_infinite, rules)
 
 -- ---- a value at a place
 
@@ -360,25 +366,78 @@ module _ (doc : List ℕ) (at : ℕ) where
         unfolding open_head
         wide = opening b e _ hs ∙ then _ _ tt (payload_read doc at width tiny more (number doc (at + 1) width) i l refl)
 
-        pub opened_scalar : (o : Result Open Refusal) → (kind ≡ String → ⊥) → (kind ≡ Object → ⊥) → (kind ≡ Array → ⊥) → told_open o ≡ ask (open_scalar at kind (number doc (at + 1) width) (at + 1 + width)) → told_open o ≡ ask (opened_at doc at)
-        opened_scalar o f g h q = q ∙ (scalar_type (length doc) at _ _ kind f g h ∙ sym wide)
+        pub opened_scalar : (o : Result Open Refusal) (s : Bool) → s ≡ has_length kind → s ≡ false → told_open o ≡ ask (open_scalar at kind (number doc (at + 1) width) (at + 1 + width)) → told_open o ≡ ask (opened_at doc at)
+        opened_scalar o s r f q = q ∙ (scalar_type (length doc) at _ _ kind (sym r ∙ f) ∙ sym wide)
 
         pub opened_long : (n : ℕ) (o : Result Open Refusal) → n ≡ number doc (at + 1) width → told_open o ≡ ask (open_type (length doc) at kind n (at + 1 + width))
             → told_open o ≡ ask (opened_at doc at)
         opened_long n o m q = rw m at q ∙ sym wide
 
 -- a length after its byte
-module _ (b width tiny : ℕ) (more : width ≡ 0 → ⊥) where
-  pub string_width : Some (head String width tiny) ≡ head_of (form_of b) → LengthWidth width
-  unfolding width_right
-  string_width e = right_length width (right_width (head String width tiny) b e) more
+right_kind : (kind : ValueType) (width : ℕ) → has_length kind ≡ true → T (width_right kind width) → T (length_right width)
+unfolding width_right
+right_kind String width h t = t
+right_kind Object width h t = t
+right_kind Array width h t = t
+right_kind Null width h t = absurd (true≢false (sym h))
+right_kind False width h t = absurd (true≢false (sym h))
+right_kind True width h t = absurd (true≢false (sym h))
+right_kind Signed width h t = absurd (true≢false (sym h))
+right_kind Unsigned width h t = absurd (true≢false (sym h))
+right_kind Tiny width h t = absurd (true≢false (sym h))
+right_kind Binary32 width h t = absurd (true≢false (sym h))
+right_kind Binary64 width h t = absurd (true≢false (sym h))
 
-  pub object_width : Some (head Object width tiny) ≡ head_of (form_of b) → LengthWidth width
-  unfolding width_right
-  object_width e = right_length width (right_width (head Object width tiny) b e) more
+pub length_width : (b width small : ℕ) (kind : ValueType) → (width ≡ 0 → ⊥) → (l : Bool) → l ≡ has_length kind → l ≡ true → Some (head kind width small) ≡ head_of (form_of b) → LengthWidth width
+length_width b width small kind more l e t hs = right_length width (right_kind kind width (sym e ∙ t) (right_width (head kind width small) b hs)) more
 
-  pub array_width : Some (head Array width tiny) ≡ head_of (form_of b) → LengthWidth width
-  unfolding width_right
-  array_width e = right_length width (right_width (head Array width tiny) b e) more
+-- null, false and true
+literal : (doc : List ℕ) (at b : ℕ) → b < 3 → answers (leaf (at + 1)) ≡ ask (open_head doc at (head_of (form_of b)))
+unfolding open_head sized_at open_type open_scalar finite_type choose form_of ◌>>=◌ follow need
+literal doc at zero h = refl
+literal doc at (suc zero) h = refl
+literal doc at (suc (suc zero)) h = refl
+literal doc at (suc (suc (suc n))) h = absurd (omega arith)
 
-pub ruleset open_laws = (open_past, opened_reserved, opened_tiny, float_width, tiny_width, opened_short, opened_scalar, opened_long, string_width, object_width, array_width, rules)
+pub opened_literal : (doc : List ℕ) (at b : ℕ) → ask (byte_at doc at at) ≡ answers b → b < 3 → answers (leaf (at + 1)) ≡ ask (opened_at doc at)
+unfolding opened_at
+opened_literal doc at b e h = literal doc at b h ∙ sym (then _ _ tt e)
+
+-- a binary64
+module _ (doc : List ℕ) (at : ℕ) (i : at < length doc) where
+  pub binary64_short : length doc - at ≤ 8 → refuses 35 at ≡ ask (open_head doc at (Some (head Binary64 8 0)))
+  unfolding open_head
+  binary64_short l = sym (stops _ _ tt (short_payload doc at 8 0 (λ z. omega (arith, z)) i l))
+
+  module _ (l : 8 < length doc - at) where
+    pub binary64_inside : FloatInside doc at Binary64
+    unfolding FloatInside
+    binary64_inside = omega arith
+
+    binary64_is : ask (open_head doc at (Some (head Binary64 8 0))) ≡ ask (open_scalar at Binary64 (number doc (at + 1) 8) (at + 1 + 8))
+    unfolding open_head
+    binary64_is = then _ _ tt (payload_read doc at 8 0 (λ z. omega (arith, z)) (number doc (at + 1) 8) i l refl) ∙ sym (scalar_type (length doc) at _ _ Binary64 refl)
+
+    width_64 : FloatWidth Binary64 8
+    unfolding FloatWidth
+    width_64 = refl
+
+    pub binary64_ends : (b : Bool) → b ≡ finite_at doc at Binary64 → b ≡ true → answers (leaf (at + 9)) ≡ ask (open_head doc at (Some (head Binary64 8 0)))
+    binary64_ends b e t =
+        let p : at + 1 + 8 ≡ at + 9 = omega arith in
+        rw (sym p) (number_finite doc at 8 Binary64 width_64 b e t ∙ sym binary64_is)
+
+    pub binary64_not : (b : Bool) → b ≡ finite_at doc at Binary64 → b ≡ false → refuses 43 at ≡ ask (open_head doc at (Some (head Binary64 8 0)))
+    binary64_not b e t = number_infinite doc at 8 Binary64 width_64 b e t ∙ sym binary64_is
+
+pub ruleset binary64_laws = (binary64_short, binary64_inside, binary64_ends, binary64_not, rules)
+
+binary64_head : head_of (form_of 12) ≡ Some (head Binary64 8 0)
+unfolding form_of choose
+binary64_head = refl
+
+pub opened_binary64 : (doc : List ℕ) (at b : ℕ) → ask (byte_at doc at at) ≡ answers b → b ≡ 12 → (o : Result Open Refusal) → told_open o ≡ ask (open_head doc at (Some (head Binary64 8 0))) → told_open o ≡ ask (opened_at doc at)
+unfolding opened_at
+opened_binary64 doc at b e t o q = q ∙ sym (then _ _ tt e ∙ rw (t, binary64_head))
+
+pub ruleset open_laws = (open_past, opened_reserved, opened_literal, opened_binary64, opened_tiny, float_width, tiny_width, opened_short, opened_scalar, opened_long, length_width, rules)

@@ -1,5 +1,5 @@
 -- What the constant tables of types.rt say of a type byte and of a key byte, by the rules' form.
-use Rattle.std.specs.Prelude.{ℕ, ◌-◌, ◌<◌, ◌≤◌, ◌≡◌, true, false, Option, Some, None}
+use Rattle.std.specs.Prelude.{ℕ, ◌-◌, ◌<◌, ◌≤◌, ◌≡◌, Bool, true, false, Option, Some, None}
 use Rattle.json_model.specs.Reading.{Reading}
 use Rattle.fractured_json_rules.specs.ByteTables.{bytes, Width, one, two, four, eight, Len, tiny, after, Form, f_null, f_bool, f_int, f_float, f_tiny, f_string, f_object, f_array, f_reserved, KeyNumber, in_byte, spelled, KeyForm, immediate, back_reference, global_index, k_reserved}
 use Rattle.fractured_json_rules.specs.Verdict.{Numeral}
@@ -14,6 +14,13 @@ use Rattle.fractured_json_values.specs.declared.types.KeyKind.TheVariants.{Immed
 abbrev pub Stands : ℕ → ℕ → ℕ → Option ℕ → Type 0
 Stands b at len (Some place) = (place ≡ b - at) × (b - at < len)
 Stands b at len None = len ≤ b - at
+
+-- the types of value with a length, in the type byte or after it
+abbrev pub has_length : ValueType → Bool
+has_length String = true
+has_length Object = true
+has_length Array = true
+has_length _ = false
 
 abbrev pub head : ValueType → ℕ → ℕ → Head
 head k w t = record { kind = k; width = w; tiny = t }

@@ -4,7 +4,7 @@
 // The ranges are looked up at constant places, so that each test is one comparison with a number.
 ghost use Rattle.std.specs.Prelude.{◌≡◌, ◌+◌, ◌≤◌, ◌<◌, Some};
 ghost use Rattle.fractured_json_rules.specs.ByteTables.{form_of, key_form_of};
-ghost use Rattle.fractured_json_values.specs.Heads.{Stands, head, head_of, key_head, key_head_of};
+ghost use Rattle.fractured_json_values.specs.Heads.{Stands, has_length, head, head_of, key_head, key_head_of};
 
 // A range of bytes: the first of them, and how many there are.
 #[derive(Clone, Copy)]
@@ -44,8 +44,14 @@ const TYPES: [Range; 11] = [
     Range { at: 190, len: 64 },
 ];
 
+// So many type bytes come before the numbers: null, false and true.
+pub(crate) const LITERALS: u8 = 3;
+
+// The type byte of a binary64.
+pub(crate) const BINARY64: u8 = 12;
+
 // The payload widths of the numbers: int8 to uint64, each signed and unsigned, binary32 and binary64.
-pub(crate) const NUMBER_WIDTHS: [u8; 10] = [1, 1, 2, 2, 4, 4, 8, 8, 4, 8];
+const NUMBER_WIDTHS: [u8; 10] = [1, 1, 2, 2, 4, 4, 8, 8, 4, 8];
 
 // The widths of a length after its byte.
 const LENGTH_WIDTHS: [u8; 3] = [1, 2, 4];
@@ -75,6 +81,16 @@ pub enum ValueType {
     String,
     Object,
     Array,
+}
+
+impl ValueType {
+    // Whether a length belongs to a value of the type, in its type byte or after it: by the order, in one comparison.
+    #[inline(always)]
+    pub(crate) fn has_length(self) -> bool
+        ensures { result ≡ has_length self }
+    {
+        ValueType::String as u8 <= self as u8
+    }
 }
 
 // What the tables say of a type byte. `tiny` is the byte less the first byte of its range. Width 0 and `tiny` stay two

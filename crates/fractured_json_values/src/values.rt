@@ -1,10 +1,12 @@
 // What stands at a type byte: its length or payload, and a value read up to a container's contents.
-ghost use Rattle.std.specs.Prelude.{◌≡◌, ◌+◌, ◌-◌, ◌≤◌, ◌<◌, length};
+ghost use Rattle.std.specs.Prelude.{◌≡◌, ◌+◌, ◌-◌, ◌≤◌, ◌<◌, length, Some};
 ghost use Rattle.json_model.specs.Bytes.{number};
 ghost use Rattle.json_model.specs.Reading.{ask};
-ghost use Rattle.fractured_json_values.specs.Opened.{sized_at, finite_type, finite_at, FloatInside, FloatWidth, LengthWidth, open_scalar, open_type, opened_at, ReadsByte, ReadsNumeral, Below, told_open};
+ghost use Rattle.fractured_json_values.specs.Heads.{head};
+ghost use Rattle.fractured_json_values.specs.declared.types.ValueType.TheVariants.{Binary64};
+ghost use Rattle.fractured_json_values.specs.Opened.{sized_at, finite_type, finite_at, FloatInside, FloatWidth, LengthWidth, open_scalar, open_type, open_head, opened_at, ReadsByte, ReadsNumeral, Below, told_open};
 
-use crate::types::{Head, NUMBER_WIDTHS, ValueType, head_of};
+use crate::types::{BINARY64, Head, LITERALS, ValueType, head_of};
 use json_model::{Refusal, refuse};
 
 // A number, and where it ends.
@@ -83,29 +85,30 @@ fn open_type(len: usize, at: usize, kind: ValueType, n: usize, past: usize) -> R
     requires { past ≤ len }
     ensures { told_open result ≡ ask (open_type len at kind n past) }
 {
-    match kind {
-        ValueType::String => {
-            if len - past < n {
-                return refuse(35, at);
-            }
-            Ok(Open::Leaf(past + n))
+    if !kind.has_length() {
+        if is_finite(kind, n) {
+            return Ok(Open::Leaf(past));
         }
+        return refuse(43, at);
+    }
+    // One comparison each, strings first: a `match` with scalars in it takes eight instructions more a string.
+    if kind == ValueType::String {
+        if len - past < n {
+            return refuse(35, at);
+        }
+        return Ok(Open::Leaf(past + n));
+    }
+    match kind {
         ValueType::Object => Ok(Open::Container {
             at: past,
             n,
             object: true,
         }),
-        ValueType::Array => Ok(Open::Container {
+        _ => Ok(Open::Container {
             at: past,
             n,
             object: false,
         }),
-        _ => {
-            if is_finite(kind, n) {
-                return Ok(Open::Leaf(past));
-            }
-            refuse(43, at)
-        }
     }
 }
 
@@ -115,12 +118,10 @@ fn open_tiny(len: usize, at: usize, kind: ValueType, tiny: usize) -> Result<Open
     requires { (at < len) × FloatWidth kind 0 }
     ensures { told_open result ≡ ask (open_type len at kind tiny (at + 1)) }
 {
-    match kind {
-        ValueType::String | ValueType::Object | ValueType::Array => {
-            open_type(len, at, kind, tiny, at + 1)
-        }
-        _ => Ok(Open::Leaf(at + 1)),
+    if !kind.has_length() {
+        return Ok(Open::Leaf(at + 1));
     }
+    open_type(len, at, kind, tiny, at + 1)
 }
 
 // Whether a float at a place is finite, by the two bytes that hold its exponent; whatever is no float passes. Beside
@@ -159,18 +160,30 @@ fn length_at(doc: &[u8], at: usize, width: usize) -> usize
     word::integer(doc, at + 1, 4) as usize
 }
 
-// The number at a place, whose payload takes so many bytes. The width of a binary64, the most frequent number, is
-// looked up at a constant place, so that its end does not wait for its type byte.
+// The number at a place, whose payload takes so many bytes.
 #[tactic(auto, using(crate::proofs::Opening::scalar_laws))]
 fn open_scalar(doc: &[u8], at: usize, kind: ValueType, width: usize) -> Result<Open, Refusal>
     requires { FloatWidth kind width × (width < length doc.now - at) }
     ensures { told_open result ≡ ask (open_scalar at kind (number doc.now (at + 1) width) (at + 1 + width)) }
 {
     if finite_at(doc, at, kind) {
-        return match kind {
-            ValueType::Binary64 => Ok(Open::Leaf(at + 1 + NUMBER_WIDTHS[9] as usize)),
-            _ => Ok(Open::Leaf(at + 1 + width)),
-        };
+        return Ok(Open::Leaf(at + 1 + width));
+    }
+    refuse(43, at)
+}
+
+// The binary64 at a place: the most frequent number has a branch of its own, so that its end does not wait for a width
+// that is looked up by its type byte.
+#[tactic(auto, using(crate::proofs::Opening::binary64_laws))]
+fn open_binary64(doc: &[u8], at: usize) -> Result<Open, Refusal>
+    requires { at < length doc.now }
+    ensures { told_open result ≡ ask (open_head doc.now at (Some (head Binary64 8 0))) }
+{
+    if doc.len() - at <= 8 {
+        return refuse(35, at);
+    }
+    if finite_at(doc, at, ValueType::Binary64) {
+        return Ok(Open::Leaf(at + 9));
     }
     refuse(43, at)
 }
@@ -183,6 +196,13 @@ pub fn open_at(doc: &[u8], at: usize) -> Result<Open, Refusal>
     ensures { told_open result ≡ ask (opened_at doc.now at) }
 {
     let b = byte_at(doc, at)?;
+    // Null, false and true need no head: to make one and ask for its type takes 1.7 times the instructions.
+    if b < LITERALS {
+        return Ok(Open::Leaf(at + 1));
+    }
+    if b == BINARY64 {
+        return open_binary64(doc, at);
+    }
     let Some(Head { kind, width, tiny }) = head_of(b) else {
         return refuse(36, at);
     };
@@ -192,11 +212,9 @@ pub fn open_at(doc: &[u8], at: usize) -> Result<Open, Refusal>
     if doc.len() - at <= width {
         return refuse(35, at);
     }
-    match kind {
-        ValueType::String | ValueType::Object | ValueType::Array => {
-            let n = length_at(doc, at, width);
-            open_type(doc.len(), at, kind, n, at + 1 + width)
-        }
-        _ => open_scalar(doc, at, kind, width),
+    if !kind.has_length() {
+        return open_scalar(doc, at, kind, width);
     }
+    let n = length_at(doc, at, width);
+    open_type(doc.len(), at, kind, n, at + 1 + width)
 }

@@ -1,4 +1,5 @@
--- Hexadecimal: what each character stands for, and a law for each way through a turn of the loop.
+-- Hexadecimal: the table of hex.rt against the rule, by one computed test over all 256 characters, and a law for each way
+-- through a turn of the loop.
 use mathlib.Core.Path.{◌≡◌, refl, sym, ◌∙◌, ap}
 use mathlib.Core.Bool.{Bool, true, false}
 use mathlib.Core.List.{List, [], ◌∷◌, ◌++◌, append-nil}
@@ -7,48 +8,62 @@ use Prim.Native.Nat.{ℕ, suc, ◌+◌, ◌*◌, ◌/◌, ◌%◌, ◌<◌, ◌�
 use native.Mathlib.Omega.{arith}
 use borrow.Author.Rules.{rules}
 use borrow.Author.Tests.{lt-ltb, eqb-true, eqb-false}
-use lib.Dec.{eqb}
-use lib.ListN.{length, get_or, take, drop, set, drop_of_length-le}
+use lib.Dec.{T, ltb, eqb, ltb→lt, eqb→eq}
+use lib.ListN.{length, get_or, take, drop, set, replicate, drop_of_length-le}
 use lib.Seq.{append_snoc, drop-cons, take-suc-set}
-use Rattle.std.specs.Char.{digit_value}
-use Rattle.std.proofs.lemmas.Bool.Decides.{nat_tests}
 use Rattle.json_model.specs.Choose.{choose}
+use Rattle.json_model.proofs.Table.{both, split, every, at}
 use Rattle.frame_rules.specs.Frame.{nibble, before, bytes_of}
 use Rattle.frame.specs.Decoded.{Decoded}
 
 -- ---- characters
 
--- std's digits in base 36 are the format's up to F
-digits_agree : (c : ℕ) → (digit_value c < 16 → digit_value c ≡ nibble c) × (16 ≤ digit_value c → nibble c ≡ 16)
-unfolding nibble choose
-digits_agree c = grind (arith, nat_tests)
+abbrev pub nibbles : List ℕ
+nibbles =
+    replicate 48 16 ++ (0 ∷ 1 ∷ 2 ∷ 3 ∷ 4 ∷ 5 ∷ 6 ∷ 7 ∷ 8 ∷ 9
+    ∷ (replicate 7 16 ++ (10 ∷ 11 ∷ 12 ∷ 13 ∷ 14 ∷ 15
+    ∷ (replicate 26 16 ++ (10 ∷ 11 ∷ 12 ∷ 13 ∷ 14 ∷ 15
+    ∷ replicate 153 16)))))
+
+right : ℕ → ℕ → Bool
+right c x = both (eqb x (nibble c)) (ltb x 17)
+
+nibbles_right : T (every right 0 nibbles)
+unfolding right nibble choose
+nibbles_right = tt
+
+module _ (c : ℕ) (h : c < 256) where
+  checked : T (eqb (get_or nibbles c 0) (nibble c)) × T (ltb (get_or nibbles c 0) 17)
+  unfolding right
+  checked = split (eqb (get_or nibbles c 0) (nibble c)) (ltb (get_or nibbles c 0) 17) (at right nibbles nibbles_right c h)
+
+  pub no_digit : 15 < get_or nibbles c 0 → nibble c ≡ 16
+  no_digit h =
+      let e : get_or nibbles c 0 ≡ nibble c = eqb→eq (get_or nibbles c 0) (nibble c) checked.0 in
+      let s : get_or nibbles c 0 < 17 = ltb→lt (get_or nibbles c 0) 17 checked.1 in
+      let l : get_or nibbles c 0 ≡ 16 = omega arith in
+      sym e ∙ l
+
+  pub a_digit : nibble c ≡ get_or nibbles c 0
+  a_digit = sym (eqb→eq (get_or nibbles c 0) (nibble c) checked.0)
+
+pub ruleset nibble_laws = (no_digit, a_digit, rules)
 
 -- ---- two characters
 
-module _ (c d x : ℕ) (ex : x ≡ c) where
-  pub no_high : (digit_value x < 16 → ⊥) → (line : List ℕ) → bytes_of (c ∷ d ∷ line) ≡ none
+module _ (c d : ℕ) where
+  pub no_high : nibble c ≡ 16 → (line : List ℕ) → bytes_of (c ∷ d ∷ line) ≡ none
   unfolding bytes_of choose
-  no_high n line =
-      let h = rw ex at n in
-      let b : nibble c ≡ 16 = (digits_agree c).1 (omega (arith, h)) in
-      rw b
+  no_high n line = rw n
 
-  module _ (y : ℕ) (ey : y ≡ d) (good : digit_value x < 16) where
-    pub no_low : (digit_value y < 16 → ⊥) → (line : List ℕ) → bytes_of (c ∷ d ∷ line) ≡ none
+  module _ (high : ℕ) (ch : nibble c ≡ high) (good : high < 16) where
+    pub no_low : nibble d ≡ 16 → (line : List ℕ) → bytes_of (c ∷ d ∷ line) ≡ none
     unfolding bytes_of choose
-    no_low n line =
-        let g : digit_value c < 16 = rw ex at good in
-        let h = rw ey at n in
-        let b : nibble d ≡ 16 = (digits_agree d).1 (omega (arith, h)) in
-        rw (sym ((digits_agree c).0 g), b, lt-ltb (digit_value c) 16 g)
+    no_low n line = rw (n, ch, lt-ltb high 16 good)
 
-    pub a_byte : (high low : ℕ) → high ≡ digit_value x → digit_value y < 16 → low ≡ digit_value y
-        → (line : List ℕ) → bytes_of (c ∷ d ∷ line) ≡ before ((16 * high + low) ∷ []) (bytes_of line)
+    pub a_byte : (low : ℕ) → nibble d ≡ low → low < 16 → (line : List ℕ) → bytes_of (c ∷ d ∷ line) ≡ before ((16 * high + low) ∷ []) (bytes_of line)
     unfolding bytes_of choose
-    a_byte high low eh fine el line =
-        let g : digit_value c < 16 = rw ex at good in
-        let f : digit_value d < 16 = rw ey at fine in
-        rw (eh, el, ex, ey, sym ((digits_agree c).0 g), sym ((digits_agree d).0 f), lt-ltb (digit_value c) 16 g, lt-ltb (digit_value d) 16 f)
+    a_byte low dl fine line = rw (ch, dl, lt-ltb high 16 good, lt-ltb low 16 fine)
 
 pub ruleset byte_laws = (no_high, no_low, a_byte, rules)
 

@@ -1,7 +1,12 @@
 -- What two characters are decoded to, and what decoding a line leaves in the bytes lent.
 use Rattle.std.specs.Prelude.{ℕ, ◌/◌, ◌<◌, Bool, true, false, Option, Some, None, List, [], ◌∷◌, ◌≡◌, length, take}
 use Rattle.std.proofs.Math.Option.{some, none}
-use Rattle.frame_rules.specs.Frame.{before, bytes_of}
+use Rattle.frame_rules.specs.Frame.{nibble, before, bytes_of}
+
+-- one character, if it is hexadecimal
+abbrev pub Nibble : ℕ → Option ℕ → Type 0
+Nibble c (Some x) = (nibble c ≡ x) × (x < 16)
+Nibble c None = nibble c ≡ 16
 
 -- two characters before the rest of a line
 abbrev pub Byte : ℕ → ℕ → Option ℕ → Type 0

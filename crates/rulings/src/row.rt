@@ -15,9 +15,13 @@ const MOST_BYTES: usize = 2048;
 // How many bytes a row and its answer have at most. A longer answer is cut: what the program writes may not change.
 const ROOM: usize = 16384;
 
+// How many words of a row are looked at: format, document, three options, a question of three words, and one that is
+// too many.
+const ROW_WORDS: usize = 9;
+
 // Spells the answer to a row's question.
 fn ask(alloc: Global, row: &str) -> Result<String, Unanswered> {
-    let words: Vec<&str> = row.split(' ').collect(alloc)?;
+    let words: Vec<&str> = row.split(' ').take(ROW_WORDS).collect(alloc)?;
     let [format, doc, asked @ ..] = words.as_slice() else {
         return Err(Unanswered::Unreadable);
     };
@@ -29,11 +33,18 @@ fn ask(alloc: Global, row: &str) -> Result<String, Unanswered> {
     }
 }
 
-// Writes a row with its answer, and answers whether the given one agrees.
-fn compare(rt: &impl Print, row: &[u8], answer: &[u8], given: &[u8]) -> io::Result<bool> {
-    rt.write_all(row)?;
-    rt.write_all(MARK)?;
-    rt.write_all(answer)?;
+// Writes a row with its answer, which are put together first, and answers whether the given one agrees.
+fn compare(
+    rt: &(impl Print + AllocGlobal),
+    row: &[u8],
+    answer: &[u8],
+    given: &[u8],
+) -> io::Result<bool> {
+    let mut text = Vec::new(rt.alloc());
+    text.extend_from_slice(row)?;
+    text.extend_from_slice(MARK)?;
+    text.extend_from_slice(answer)?;
+    rt.write_all(&text)?;
     if answer == given {
         println!(rt)?;
         return Ok(true);
