@@ -2,7 +2,7 @@
 // and then says what they hold afterwards.
 use crate::parse::{bytes, option};
 use crate::questions::{Question, read};
-use crate::spell::{self, Word, found, hex, ok, refusal, span};
+use crate::spell::{self, Word, found, hex, ok, put_hex, refusal, span};
 use crate::unanswered::Unanswered;
 use binary_json::{Looked, MemberAt, Sized, SlotOffset, TreeOffset, Typed};
 use encoding::binary::{kind_and_size, type_number};
@@ -74,18 +74,19 @@ fn ask(alloc: Global, doc: &[u8], question: Question) -> Result<String, Unanswer
 
 // The verdict, and the lent marks afterwards.
 fn check_with(alloc: Global, doc: &[u8], marks: &mut [u8]) -> Result<String, AllocError> {
-    let verdict = verdict(alloc, binary_json::check(doc, marks))?;
-    let marks = hex(alloc, marks)?;
-    format!(in alloc; "{verdict} marks={marks}")
+    let mut text = verdict(alloc, binary_json::check(doc, marks))?;
+    text.push_str(" marks=")?;
+    put_hex(&mut text, marks)?;
+    Ok(text)
 }
 
 // How many marks a row lends at most.
 const MOST_MARKS: usize = 64;
 
 // Spells the answer to the question of a row.
-pub(crate) fn answer(alloc: Global, doc: &[u8], words: &[&str]) -> Result<String, Unanswered> {
-    if let [first, "check", ..] = words
-        && let Some(marks) = option(first, "marks")
+pub(crate) fn answer(alloc: Global, doc: &[u8], words: &[&[u8]]) -> Result<String, Unanswered> {
+    if let [first, b"check", ..] = words
+        && let Some(marks) = option(first, b"marks")
     {
         let mut marks = bytes(alloc, marks, MOST_MARKS)?;
         return Ok(check_with(alloc, doc, &mut marks)?);

@@ -87,7 +87,7 @@ fn ask(
 const MOST_WORDS: usize = 256;
 
 // The value of an option, if the words start with it, and the words after it.
-fn option_of<'w, 'r>(words: &'w [&'r str], name: &str) -> (Option<&'r str>, &'w [&'r str]) {
+fn option_of<'w, 'r>(words: &'w [&'r [u8]], name: &[u8]) -> (Option<&'r [u8]>, &'w [&'r [u8]]) {
     if let [first, rest @ ..] = words
         && let Some(value) = option(first, name)
     {
@@ -98,10 +98,11 @@ fn option_of<'w, 'r>(words: &'w [&'r str], name: &str) -> (Option<&'r str>, &'w 
 
 // The key table: its first words are given, or none, and then come zeros. It is as long as the row says, or else just
 // as long as the words that are given, or has 8 words where none are.
-fn lend(alloc: Global, len: Option<&str>, given: Option<&str>) -> Result<Vec<u32>, Unanswered> {
+fn lend(alloc: Global, len: Option<&[u8]>, given: Option<&[u8]>) -> Result<Vec<u32>, Unanswered> {
     let mut keys = match given {
         Some(given) => given
-            .split(',')
+            .split(|c| *c == b',')
+            .take(MOST_WORDS + 1)
             .map(|word| number(word))
             .try_collect(alloc)?,
         None => Vec::new(alloc),
@@ -119,10 +120,10 @@ fn lend(alloc: Global, len: Option<&str>, given: Option<&str>) -> Result<Vec<u32
 }
 
 // Spells the answer to the question of a row.
-pub(crate) fn answer(alloc: Global, doc: &[u8], words: &[&str]) -> Result<String, Unanswered> {
-    let (len, words) = option_of(words, "words");
-    let (given, words) = option_of(words, "table");
-    let (count, words) = option_of(words, "count");
+pub(crate) fn answer(alloc: Global, doc: &[u8], words: &[&[u8]]) -> Result<String, Unanswered> {
+    let (len, words) = option_of(words, b"words");
+    let (given, words) = option_of(words, b"table");
+    let (count, words) = option_of(words, b"count");
     let mut keys = lend(alloc, len, given)?;
     let count = match count {
         Some(count) => number(count)?,

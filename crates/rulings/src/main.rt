@@ -20,6 +20,7 @@ const MOST_READ: usize = 65536;
 fn run_lines(rt: &(impl Print + AllocGlobal), text: &[u8]) -> io::Result<()> {
     let mut rows = 0u64;
     let mut agree = 0u64;
+    let mut written = Vec::new(rt.alloc());
     if !text.is_empty() {
         for line in text
             .strip_suffix(b"\n")
@@ -27,7 +28,7 @@ fn run_lines(rt: &(impl Print + AllocGlobal), text: &[u8]) -> io::Result<()> {
             .split(|c| *c == b'\n')
         {
             rows = rows.saturating_add(1);
-            if row::run(rt, line)? {
+            if row::run(rt, &mut written, line)? {
                 agree = agree.saturating_add(1);
             }
         }

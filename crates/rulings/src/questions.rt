@@ -1,5 +1,5 @@
 // The questions of both formats, by name, and their arguments.
-use crate::parse::{bytes, number};
+use crate::parse::{bytes, number, text};
 use crate::unanswered::Unanswered;
 use std::alloc::Global;
 
@@ -43,7 +43,7 @@ fn at_cursor(name: &str, cursor: usize) -> Result<Question, Unanswered> {
     }
 }
 
-fn inside(alloc: Global, name: &str, cursor: usize, last: &str) -> Result<Question, Unanswered> {
+fn inside(alloc: Global, name: &str, cursor: usize, last: &[u8]) -> Result<Question, Unanswered> {
     match name {
         "element" => Ok(Question::Element(cursor, number(last)?)),
         "member" => Ok(Question::Member(cursor, number(last)?)),
@@ -55,11 +55,11 @@ fn inside(alloc: Global, name: &str, cursor: usize, last: &str) -> Result<Questi
 }
 
 // The question that the words are.
-pub(crate) fn read(alloc: Global, words: &[&str]) -> Result<Question, Unanswered> {
+pub(crate) fn read(alloc: Global, words: &[&[u8]]) -> Result<Question, Unanswered> {
     match *words {
-        ["check"] => Ok(Question::Check),
-        [name, cursor] => at_cursor(name, number(cursor)?),
-        [name, cursor, last] => inside(alloc, name, number(cursor)?, last),
+        [b"check"] => Ok(Question::Check),
+        [name, cursor] => at_cursor(text(name), number(cursor)?),
+        [name, cursor, last] => inside(alloc, text(name), number(cursor)?, last),
         _ => Err(Unanswered::Unreadable),
     }
 }

@@ -15,36 +15,36 @@ const MOST_BYTES: usize = 2048;
 // How many bytes a row and its answer have at most. A longer answer is cut: what the program writes may not change.
 const ROOM: usize = 16384;
 
-// How many words of a row are looked at: format, document, three options, a question of three words, and one that is
-// too many.
-const ROW_WORDS: usize = 9;
+// How many words after the document are looked at: three options, a question of three words, and one that is too many.
+const ASKED_WORDS: usize = 7;
 
 // Spells the answer to a row's question.
-fn ask(alloc: Global, row: &str) -> Result<String, Unanswered> {
-    let words: Vec<&str> = row.split(' ').take(ROW_WORDS).collect(alloc)?;
-    let [format, doc, asked @ ..] = words.as_slice() else {
+fn ask(alloc: Global, row: &[u8]) -> Result<String, Unanswered> {
+    let mut words = row.split(|c| *c == b' ');
+    let (Some(format), Some(doc)) = (words.next(), words.next()) else {
         return Err(Unanswered::Unreadable);
     };
     let doc = bytes(alloc, doc, MOST_BYTES)?;
-    match *format {
-        "B" => binary::answer(alloc, &doc, asked),
-        "F" => fractured::answer(alloc, &doc, asked),
+    let asked: Vec<&[u8]> = words.take(ASKED_WORDS).collect(alloc)?;
+    match format {
+        b"B" => binary::answer(alloc, &doc, &asked),
+        b"F" => fractured::answer(alloc, &doc, &asked),
         _ => Err(Unanswered::Unreadable),
     }
 }
 
-// Writes a row with its answer, which are put together first, and answers whether the given one agrees.
+// Writes a row up to its mark with its answer, put together in `text`, and answers whether the given one agrees.
 fn compare(
-    rt: &(impl Print + AllocGlobal),
+    rt: &impl Print,
+    text: &mut Vec<u8>,
     row: &[u8],
     answer: &[u8],
     given: &[u8],
 ) -> io::Result<bool> {
-    let mut text = Vec::new(rt.alloc());
+    text.clear();
     text.extend_from_slice(row)?;
-    text.extend_from_slice(MARK)?;
     text.extend_from_slice(answer)?;
-    rt.write_all(&text)?;
+    rt.write_all(text)?;
     if answer == given {
         println!(rt)?;
         return Ok(true);
@@ -63,23 +63,24 @@ fn unreadable(rt: &impl Print, line: &[u8]) -> io::Result<bool> {
 }
 
 // Runs a row, and answers whether the answer that it gives agrees.
-pub(crate) fn run(rt: &(impl Print + AllocGlobal), line: &[u8]) -> io::Result<bool> {
+pub(crate) fn run(
+    rt: &(impl Print + AllocGlobal),
+    text: &mut Vec<u8>,
+    line: &[u8],
+) -> io::Result<bool> {
     let Some(at) = line.windows(MARK.len()).position(|part| part == MARK) else {
         return unreadable(rt, line);
     };
-    let row = &line[..at];
-    let given = &line[at + MARK.len()..];
-    // A byte that is not UTF-8 is no part of a question, and is not looked at where nothing is asked.
-    let words = String::from_utf8_lossy(rt.alloc(), row)?;
-    let answer = match ask(rt.alloc(), &words) {
+    let (row, given) = line.split_at(at + MARK.len());
+    let answer = match ask(rt.alloc(), &line[..at]) {
         Ok(answer) => answer,
         Err(Unanswered::Refused(r)) => refusal(rt.alloc(), r)?,
         Err(Unanswered::Unreadable) => return unreadable(rt, line),
         Err(Unanswered::Memory(e)) => return Err(e.into()),
     };
-    let room = ROOM.saturating_sub(at + MARK.len()).min(answer.len());
+    let room = ROOM.saturating_sub(row.len()).min(answer.len());
     if room == 0 {
         return unreadable(rt, line);
     }
-    compare(rt, row, &answer.as_bytes()[..room], given)
+    compare(rt, text, row, &answer.as_bytes()[..room], given)
 }

@@ -46,11 +46,15 @@ pub(crate) fn put_number(text: &mut String, x: usize) -> Result<(), AllocError>
     write!(text, " {x}")
 }
 
+// How many bytes most answers have at most.
+const MOST_WRITTEN: usize = 64;
+
 // A word, and numbers after it.
 pub(crate) fn answer(alloc: Global, word: Word, numbers: &[usize]) -> Result<String, AllocError>
     ensures { IfOk result (λ text. string_bytes text ≡ spelling word ++ flat_map spaced numbers.now) }
 {
-    let mut text = String::from_str(alloc, word.spelling())?;
+    let mut text = String::with_capacity(alloc, MOST_WRITTEN)?;
+    text.push_str(word.spelling())?;
     for x in numbers {
         put_number(&mut text, *x)?;
     }
@@ -86,15 +90,20 @@ const DIGITS: [char; 16] = [
     '0', '1', '2', '3', '4', '5', '6', '7', '8', '9', 'A', 'B', 'C', 'D', 'E', 'F',
 ];
 
-// A text in hexadecimal, or `-`. By digits, and not by `{:02X}`: a row with 60 marks then takes 1.5 times the time.
-pub(crate) fn hex(alloc: Global, bytes: &[u8]) -> Result<String, AllocError> {
-    let mut text = String::new(alloc);
+// Puts a text in hexadecimal, or `-`, after a text. By digits: with `{:02X}` a row of 60 marks takes 1.5 times the time.
+pub(crate) fn put_hex(text: &mut String, bytes: &[u8]) -> Result<(), AllocError> {
     if bytes.is_empty() {
-        text.push('-')?;
+        return text.push('-');
     }
     for byte in bytes {
         text.push(DIGITS[usize::from(byte / 16)])?;
         text.push(DIGITS[usize::from(byte % 16)])?;
     }
+    Ok(())
+}
+
+pub(crate) fn hex(alloc: Global, bytes: &[u8]) -> Result<String, AllocError> {
+    let mut text = String::new(alloc);
+    put_hex(&mut text, bytes)?;
     Ok(text)
 }
